@@ -1,1 +1,3 @@
+pub mod Args
+pub mod Trap
 pub mod Word

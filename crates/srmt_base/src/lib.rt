@@ -22,4 +22,4 @@ pub use op::Op;
 pub use side::Side;
 pub use trap::{SourceEnd, Trap};
 pub use ty::Ty;
-pub use word::{Kind, Site, Word};
+pub use word::{Kind, Site, Word, pack};
