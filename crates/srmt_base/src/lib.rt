@@ -7,6 +7,7 @@
 #![tactic(auto)]
 
 mod args;
+mod conversion;
 mod event;
 mod limits;
 mod op;
@@ -16,6 +17,7 @@ mod ty;
 mod word;
 
 pub use args::Args;
+pub use conversion::convert;
 pub use event::Event;
 pub use limits::Limits;
 pub use op::Op;
