@@ -12,6 +12,8 @@ use Rattle.std.proofs.lemmas.Nat.{pow_pos}
 use Rattle.srmt_base.specs.declared.ty.Ty.{Ty}
 use Rattle.srmt_base.specs.Types.{low_bits, value_at}
 use Rattle.srmt_base.specs.Convert.{convert_of, converted}
+use Rattle.mid_code.specs.declared.program.RegisterKind.{RegisterKind}
+use Rattle.mid_code.specs.declared.program.RegisterKind.TheVariants.{Number}
 use Rattle.mid_code.specs.declared.program.MidProgram.{MidProgram}
 use Rattle.mid_code.specs.declared.program.MidFunction.{MidFunction}
 use Rattle.mid_code.specs.declared.program.MidLine.{MidLine}
@@ -21,7 +23,7 @@ use Rattle.mid_code.specs.Program.{function_at, line_at}
 use Rattle.mid_code.specs.Valid.{AreFit, IsFinal, IsValidFunction, IsValid}
 use Rattle.mid_code.specs.Machine.{Machine, does, act, act_at, register, given, passed}
 use Rattle.mid_code.specs.Meaning.{Step, On, Ends, Stuck, Run, Running, Ended, NoWay, step, step_by, preceded, then_run, exec, started, register_count}
-use Rattle.mid_code.specs.Fits.{Fits}
+use Rattle.mid_code.specs.Fits.{Fits, AreWithin}
 
 -- an element found satisfies what all do
 pub found_one : {X : Type 0} (P : X → Type 0) (xs : List X) (k : ℕ) (x : X) → All P xs → slice_get xs k ≡ Some x → P x
@@ -130,3 +132,34 @@ never_stuck_from program valid (suc more) m fits h =
 
 pub never_stuck : (program : MidProgram) → IsValid program → (steps : ℕ) → exec program steps (started program) ≡ NoWay → ⊥
 never_stuck program valid steps h = never_stuck_from program valid steps (started program) (fits_started program valid) h
+
+-- the registers of a fit instruction are there
+pub within_fit : (kinds : List RegisterKind) (mid : Mid) → AreFit kinds mid → AreWithin (length kinds) mid
+within_fit kinds (Const target value) fit = fit.0
+within_fit kinds (Conv from to target source) fit = (slice_get_within kinds target Number fit.0, slice_get_within kinds source Number fit.1)
+within_fit kinds (Put source) fit = slice_get_within kinds source Number fit
+within_fit kinds (Exit source) fit = slice_get_within kinds source Number fit
+
+-- the registers of the next instruction are there
+pub within_next : (program : MidProgram) (m : Machine) (l : MidLine) → IsValid program → Fits program m → line_at program m.top.function m.top.place ≡ Some l → AreWithin (length m.top.registers) l.mid
+within_next program m l valid fits at =
+    let here : slice_get fits.code.code m.top.place ≡ Some l = sym (ap (λ o. option_and_then (λ f. slice_get f.code m.top.place) o) fits.found) ∙ at in
+    let good = valid_function program m.top.function fits.code valid fits.found in
+    rw fits.registers (within_fit fits.code.kinds l.mid (good.each m.top.place l here))
+
+-- there is a next instruction
+pub next_found : (program : MidProgram) (m : Machine) → Fits program m → (l : MidLine) × (line_at program m.top.function m.top.place ≡ Some l)
+next_found program m fits =
+    let here = one_within fits.code.code m.top.place fits.place in
+    (here.0, ap (λ o. option_and_then (λ f. slice_get f.code m.top.place) o) fits.found ∙ here.1)
+
+-- a step by its instruction
+pub step-at : (program : MidProgram) (m : Machine) (l : MidLine) → line_at program m.top.function m.top.place ≡ Some l → step program m ≡ step_by (act l.mid l.line m) m
+unfolding does
+step-at program m l at = ap (λ o. step_by (act_at o m) m) at
+
+-- the next place is a number of 16 bits
+pub place_small : (program : MidProgram) (m : Machine) → IsValid program → Fits program m → m.top.place < 2 ^ 16
+place_small program m valid fits =
+    let good = valid_function program m.top.function fits.code valid fits.found in
+    omega (arith, good.limit, fits.place)

@@ -1,8 +1,10 @@
 -- A machine that stands within its program.
-use Rattle.std.specs.Prelude.{◌≡◌, ◌^◌, ◌<◌, length, Some}
-use Rattle.std.specs.Prelude.{All}
+use Rattle.std.specs.Prelude.{ℕ, ◌≡◌, ◌^◌, ◌<◌, length, Some}
+use Rattle.std.specs.Prelude.{ℕ, All}
 use Rattle.mid_code.specs.declared.program.MidProgram.{MidProgram}
 use Rattle.mid_code.specs.declared.program.MidFunction.{MidFunction}
+use Rattle.mid_code.specs.declared.mid.Mid.{Mid}
+use Rattle.mid_code.specs.declared.mid.Mid.TheVariants.{Const, Conv, Put, Exit}
 use Rattle.mid_code.specs.Program.{function_at}
 use Rattle.mid_code.specs.Machine.{Activation, Machine}
 
@@ -17,3 +19,10 @@ pub record IsWithin (program : MidProgram) (a : Activation) : Type 0 where
 
 abbrev pub Fits : MidProgram → Machine → Type 0
 Fits program m = IsWithin program m.top
+
+-- each register that an instruction names is one of so many, one case for each
+abbrev pub AreWithin : ℕ → Mid → Type 0
+AreWithin count (Const target value) = target < count
+AreWithin count (Conv from to target source) = (target < count) × (source < count)
+AreWithin count (Put source) = source < count
+AreWithin count (Exit source) = source < count

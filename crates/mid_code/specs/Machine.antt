@@ -6,6 +6,8 @@ use Rattle.mid_code.specs.declared.program.MidProgram.{MidProgram}
 use Rattle.mid_code.specs.declared.program.MidLine.{MidLine}
 use Rattle.mid_code.specs.declared.mid.Mid.{Mid}
 use Rattle.mid_code.specs.declared.mid.Mid.TheVariants.{Const, Conv, Put, Exit}
+use Rattle.mid_code.specs.declared.access.Access.{Access}
+use Rattle.mid_code.specs.declared.access.Access.TheVariants.{Puts, Exits}
 use Rattle.mid_code.specs.Program.{line_at}
 
 -- a function that was entered and not yet left: its number, the place of its next instruction, and
@@ -19,11 +21,6 @@ pub record Activation : Type 0 where
 pub record Machine : Type 0 where
   pub top : Activation
   pub below : List Activation
-
--- what an instruction wants of the outside
-pub data Access : Type 0 where
-  Puts : (value : ℕ) → Access
-  Exits : (value : ℕ) → Access
 
 -- what the next instruction does
 pub data Does : Type 0 where

@@ -7,8 +7,10 @@ use Rattle.srmt_base.specs.declared.trap.SourceEnd.TheVariants.{Exit as ExitEnd,
 use Rattle.srmt_base.specs.declared.limits.Limits.{Limits}
 use Rattle.mid_code.specs.declared.program.MidProgram.{MidProgram}
 use Rattle.mid_code.specs.declared.program.MidFunction.{MidFunction}
+use Rattle.mid_code.specs.declared.access.Access.{Access}
+use Rattle.mid_code.specs.declared.access.Access.TheVariants.{Puts, Exits}
 use Rattle.mid_code.specs.Program.{function_at}
-use Rattle.mid_code.specs.Machine.{Machine, Access, Puts, Exits, Does, Goes, Traps, Reaches, Lost, passed, does}
+use Rattle.mid_code.specs.Machine.{Machine, Does, Goes, Traps, Reaches, Lost, passed, does}
 
 -- what one step of a run gives, with its events
 pub data Step : Type 0 where
@@ -54,6 +56,10 @@ then_run Stuck rest = NoWay
 abbrev pub exec : MidProgram → ℕ → Machine → Run
 exec program zero m = Running m []
 exec program (suc more) m = then_run (step program m) (exec program more)
+
+-- some steps lead from a machine to another, with these events in all
+abbrev pub Comes : MidProgram → Machine → List Event → Machine → Type 0
+Comes program m events next = (steps : ℕ) × (exec program steps m ≡ Running next events)
 
 -- the run from a machine ends so, with these events in all
 abbrev pub Finishes : MidProgram → Machine → List Event → SourceEnd → Type 0

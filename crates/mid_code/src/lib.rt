@@ -6,10 +6,12 @@
 //! the values of `srmt_base`.
 #![tactic(auto)]
 
+mod access;
 mod laws;
 mod mid;
 mod program;
 
+pub use access::Access;
 pub use laws::{is_determined, is_never_stuck};
 pub use mid::Mid;
 pub use program::{FunType, MidFunction, MidLine, MidProgram, RegisterKind, Static};

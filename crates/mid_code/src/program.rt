@@ -66,3 +66,27 @@ pub struct MidProgram {
     /// All functions by number, the first of which is 1: those of the main file come first.
     pub functions: Items<MidFunction>,
 }
+
+impl MidProgram {
+    ghost use Rattle.std.specs.Prelude.{◌≡◌};
+    ghost use Rattle.std.specs.Option.{option_copied};
+    ghost use Rattle.mid_code.specs.Program.{function_at, line_at};
+
+    /// The function of a number, the first of which is 1, or `None` where there is none.
+    pub fn function(&self, number: u16) -> Option<&MidFunction>
+        ensures { option_copied result ≡ function_at self.now number }
+    {
+        if number == 0 {
+            return None;
+        }
+        self.functions.get(usize::from(number) - 1)
+    }
+
+    /// The instruction at a place of a function, from 0, or `None` past its code.
+    pub fn line(&self, function: u16, place: usize) -> Option<MidLine>
+        ensures { result ≡ line_at self.now function place }
+    {
+        let function = self.function(function)?;
+        function.code.get(place).copied()
+    }
+}
