@@ -1,5 +1,5 @@
 -- Values of the integer types, and how they are kept as numbers (C11 6.2.5, 6.2.6.2).
-use Rattle.std.specs.Prelude.{ℕ, ◌-◌, ◌%◌, ◌^◌, ℤ, pos, ◌-ℤ◌, neg_ℤ, Bool as Test, true, false, ◌&&◌, if◌then◌else◌, nat_lt, int_le, unsigned_abs}
+use Rattle.std.specs.Prelude.{ℕ, ◌-◌, ◌%◌, ◌^◌, ℤ, pos, ◌-ℤ◌, neg_ℤ, Bool as Test, true, false, ◌&&◌, if◌then◌else◌, nat_lt, int_le, unsigned_abs, ⊤}
 use Rattle.std.specs.Int.{int_rem_euclid}
 use Rattle.srmt_base.specs.declared.ty.Ty.{Ty}
 use Rattle.srmt_base.specs.declared.ty.Ty.TheVariants.{Bool, Char, SChar, UChar, Short, UShort, Int, UInt}
@@ -69,3 +69,14 @@ greatest_of ty = if is_signed ty then pos (2 ^ (width_of ty - 1) - 1) else pos (
 -- whether a type can represent a number
 abbrev pub can_hold : Ty → ℤ → Test
 can_hold ty z = int_le (least_of ty) z && int_le z (greatest_of ty)
+
+-- arithmetic is made at the type: the operands of smaller types are promoted first (C11 6.3.1.1p2)
+abbrev pub IsPromoted : Ty → Type 0
+IsPromoted Bool = ⊥
+IsPromoted Char = ⊥
+IsPromoted SChar = ⊥
+IsPromoted UChar = ⊥
+IsPromoted Short = ⊥
+IsPromoted UShort = ⊥
+IsPromoted Int = ⊤
+IsPromoted UInt = ⊤

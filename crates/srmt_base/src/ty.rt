@@ -1,5 +1,5 @@
-ghost use Rattle.std.specs.Prelude.{◌≡◌, ℕ};
-ghost use Rattle.srmt_base.specs.Types.{width_of, is_signed, value_at, wrapped, kept};
+ghost use Rattle.std.specs.Prelude.{◌≡◌, ℕ, ◌^◌, ◌↔◌, pos, neg_ℤ, ◌≤ℤ◌, ◌<ℤ◌, IsTrue};
+ghost use Rattle.srmt_base.specs.Types.{width_of, is_signed, least_of, greatest_of, can_hold, IsPromoted, value_at, wrapped, kept};
 
 /// An integer type of the accepted subset of C (C11 6.2.5), in the order of its code, from 0.
 #[derive(Clone, Copy, Debug, PartialEq, Eq)]
@@ -80,9 +80,47 @@ impl Ty {
         LAYOUTS[self as usize].signed
     }
 
+    /// Whether arithmetic is made at the type: `int` or `unsigned int`.
+    pub fn is_promoted(self) -> bool
+        ensures { IsTrue result ↔ IsPromoted self }
+    {
+        matches!(self, Ty::Int | Ty::UInt)
+    }
+
+    /// The least value of the type.
+    pub fn least(self) -> i64
+        ensures { result ≡ least_of self }
+    {
+        if self.is_signed() {
+            -(1 << (self.width() - 1))
+        } else {
+            0
+        }
+    }
+
+    /// The greatest value of the type.
+    pub fn greatest(self) -> i64
+        ensures { result ≡ greatest_of self }
+    {
+        if self.is_signed() {
+            (1 << (self.width() - 1)) - 1
+        } else {
+            (1 << self.width()) - 1
+        }
+    }
+
+    /// Whether the type can represent a value.
+    pub fn can_hold(self, value: i64) -> bool
+        ensures { result ≡ can_hold self value }
+    {
+        self.least() <= value && value <= self.greatest()
+    }
+
     /// What a number stands for when it is read at the type.
     pub fn read(self, number: u64) -> i64
-        ensures { result ≡ value_at self number }
+        ensures value { result ≡ value_at self number }
+        ensures least { neg_ℤ (pos (2 ^ 31)) ≤ℤ result }
+        ensures greatest { result <ℤ pos (2 ^ 32) }
     {
         let low = (number % (1 << 32)) as i64;
         if self.is_signed() && low >= 1 << 31 {
