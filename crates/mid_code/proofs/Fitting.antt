@@ -1,5 +1,5 @@
 -- A machine that fits a valid program has a next instruction, and fits after it.
-use Rattle.std.proofs.Common.{◌≡◌, ℕ, zero, suc, ◌+◌, ◌-◌, ◌<◌, ◌^◌, List, length, Some, refl, sym, ap, ◌∙◌, subst, arith}
+use Rattle.std.proofs.Common.{◌≡◌, ℕ, zero, suc, ◌+◌, ◌-◌, ◌<◌, ◌^◌, List, length, Option, Some, None, refl, sym, ap, ◌∙◌, subst, arith}
 use Rattle.std.proofs.Common.{inl, inr}
 use Rattle.std.specs.Prelude.{All, slice_get, option_and_then}
 use Rattle.std.proofs.lemmas.List.{length-set, length-replicate}
@@ -7,11 +7,9 @@ use Rattle.std.proofs.lemmas.List.Elements.{All-set, All-replicate}
 use Rattle.std.proofs.lemmas.Bool.{cases_lt}
 use Rattle.std.proofs.lemmas.Option.{slice_get_cases, slice_get_within, get_or_from_slice_get}
 use Rattle.srmt_base.specs.declared.event.Event.{Event}
-use Rattle.std.specs.Prelude.{ℤ, pos, negsuc}
-use Rattle.std.proofs.lemmas.Nat.{pow_pos}
 use Rattle.srmt_base.specs.declared.ty.Ty.{Ty}
-use Rattle.srmt_base.specs.Types.{low_bits, value_at}
-use Rattle.srmt_base.specs.Convert.{convert_of, converted}
+use Rattle.srmt_base.specs.Convert.{convert_of}
+use Rattle.srmt_base.proofs.Ranges.{convert_of-lt}
 use Rattle.mid_code.specs.declared.program.RegisterKind.{RegisterKind}
 use Rattle.mid_code.specs.declared.program.RegisterKind.TheVariants.{Number}
 use Rattle.mid_code.specs.declared.program.MidProgram.{MidProgram}
@@ -33,16 +31,12 @@ found_one P xs k x all at = subst P (get_or_from_slice_get xs k x x at) (all k x
 pub one_within : {X : Type 0} (xs : List X) (k : ℕ) → k < length xs → (x : X) × (slice_get xs k ≡ Some x)
 one_within xs k within =
     elim (slice_get_cases xs k).1 as (λ _. (x : _) × (slice_get xs k ≡ Some x)) [
-      inl found ↦ (found.0, found.2)
-    | inr past ↦ absurd (omega (arith, past.0))
+      | inl found ↦ (found.0, found.2)
+      | inr past ↦ absurd (omega (arith, past.0))
     ]
 
-low_bits-small : (w : ℕ) (z : ℤ) → low_bits w z < 2 ^ w
-low_bits-small w (pos a) = let some : 0 < 2 ^ w = pow_pos w in omega arith
-low_bits-small w (negsuc a) = let some : 0 < 2 ^ w = pow_pos w in omega arith
-
 small_converted : (from to : Ty) (n : ℕ) → convert_of from to n < 2 ^ 44
-small_converted from to n = omega (arith, low_bits-small 32 (converted to (value_at from n)))
+small_converted from to n = omega (arith, convert_of-lt from to n)
 
 -- the function of a number is one of the program's
 pub valid_function : (program : MidProgram) (number : ℕ) (f : MidFunction) → IsValid program → function_at program number ≡ Some f → IsValidFunction program.types f
@@ -60,10 +54,10 @@ followed : (program : MidProgram) (f : MidFunction) (place : ℕ) (l : MidLine) 
 followed program f place l valid at not_final =
     let within : place < length f.code = slice_get_within f.code place l at in
     elim (cases_lt (place + 1) (length f.code)) as (λ _. place + 1 < length f.code) [
-      inl more ↦ more
-    | inr none ↦
-        let here : length f.code - 1 ≡ place = omega arith in
-        absurd (not_final (valid.last l (rw here at)))
+      | inl more ↦ more
+      | inr none ↦
+          let here : length f.code - 1 ≡ place = omega arith in
+          absurd (not_final (valid.last l (rw here at)))
     ]
 
 -- the machine after an instruction that gives a register a value
@@ -73,7 +67,7 @@ sound_given program m f target value fits found more count small = record {
   found = found;
   place = more;
   registers = length-set m.top.registers target value ∙ count;
-  each = All-set (λ v. v < 2 ^ 44) m.top.registers target value small fits.each
+  each = All-set (λ v. v < 2 ^ 44) m.top.registers target value small fits.each;
 }
 
 sound_passed : (program : MidProgram) (m : Machine) (f : MidFunction) → (fits : Fits program m) → function_at program m.top.function ≡ Some f → m.top.place + 1 < length f.code → length m.top.registers ≡ length f.kinds → Fits program (passed m)
@@ -82,7 +76,7 @@ sound_passed program m f fits found more count = record {
   found = found;
   place = more;
   registers = count;
-  each = fits.each
+  each = fits.each;
 }
 
 -- one case for each instruction
@@ -112,7 +106,7 @@ fits_started program valid =
       found = main.found;
       place = omega (arith, good.long);
       registers = length-replicate (register_count (function_at program program.main)) 0 ∙ count;
-      each = All-replicate (λ v. v < 2 ^ 44) (register_count (function_at program program.main)) 0 (omega arith)
+      each = All-replicate (λ v. v < 2 ^ 44) (register_count (function_at program program.main)) 0 (omega arith);
     }
 
 not_preceded : (before : List Event) (r : Run) → (r ≡ NoWay → ⊥) → preceded before r ≡ NoWay → ⊥
@@ -163,3 +157,18 @@ pub place_small : (program : MidProgram) (m : Machine) → IsValid program → F
 place_small program m valid fits =
     let good = valid_function program m.top.function fits.code valid fits.found in
     omega (arith, good.limit, fits.place)
+
+-- an instruction leads to the next place
+next_place-act : (m next : Machine) (mid : Mid) (line : ℕ) (events : List Event) → step_by (act mid line m) m ≡ On next events → next.top.place ≡ m.top.place + 1
+next_place-act m next (Const target value) line events h = let e : given target value m ≡ next = cc in sym (ap (λ x. x.top.place) e)
+next_place-act m next (Conv from to target source) line events h = let e : given target (convert_of from to (register m source)) m ≡ next = cc in sym (ap (λ x. x.top.place) e)
+next_place-act m next (Put source) line events h = let e : passed m ≡ next = cc in sym (ap (λ x. x.top.place) e)
+next_place-act m next (Exit source) line events h = absurd (cc)
+
+next_place-at : (m next : Machine) (o : Option MidLine) (events : List Event) → step_by (act_at o m) m ≡ On next events → next.top.place ≡ m.top.place + 1
+next_place-at m next None events h = absurd (cc)
+next_place-at m next (Some l) events h = next_place-act m next l.mid l.line events h
+
+pub next_place-step : (program : MidProgram) (m next : Machine) (events : List Event) → step program m ≡ On next events → next.top.place ≡ m.top.place + 1
+unfolding does
+next_place-step program m next events h = next_place-at m next (line_at program m.top.function m.top.place) events h

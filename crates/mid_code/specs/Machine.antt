@@ -41,14 +41,14 @@ register m r = slice_index m.top.registers r
 abbrev pub passed : Machine → Machine
 passed m = record {
   top = record { function = m.top.function; place = m.top.place + 1; registers = m.top.registers };
-  below = m.below
+  below = m.below;
 }
 
 -- the same, with a value in the target register
 abbrev pub given : ℕ → ℕ → Machine → Machine
 given target value m = record {
   top = record { function = m.top.function; place = m.top.place + 1; registers = slice_set m.top.registers target value };
-  below = m.below
+  below = m.below;
 }
 
 -- what an instruction does, one case for each

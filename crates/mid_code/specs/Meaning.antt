@@ -74,7 +74,7 @@ register_count (Some f) = length f.kinds
 abbrev pub started : MidProgram → Machine
 started program = record {
   top = record { function = program.main; place = 0; registers = replicate (register_count (function_at program program.main)) 0 };
-  below = []
+  below = [];
 }
 
 -- the meaning: with this input and these limits the program gives these events and ends so. No

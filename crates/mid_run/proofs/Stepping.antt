@@ -1,8 +1,7 @@
 -- One step of the machine is one step of the meaning.
-use Rattle.std.proofs.Common.{◌≡◌, ℕ, ◌+◌, ◌<◌, ◌%◌, ◌^◌, List, [], ◌∷◌, length, Option, Some, None, refl, sym, ap, ◌∙◌, subst, arith}
+use Rattle.std.proofs.Common.{◌≡◌, ℕ, ◌+◌, ◌<◌, ◌%◌, ◌^◌, List, [], ◌∷◌, length, Option, Some, None, sym, ap, ◌∙◌, subst, arith}
 use Rattle.srmt_base.specs.declared.event.Event.{Event}
 use Rattle.srmt_base.specs.declared.event.Event.TheVariants.{Byte, Exit as ExitEvent}
-use Rattle.srmt_base.specs.declared.trap.SourceEnd.{SourceEnd}
 use Rattle.srmt_base.specs.declared.trap.SourceEnd.TheVariants.{Exit as ExitEnd}
 use Rattle.mid_code.specs.declared.program.MidProgram.{MidProgram}
 use Rattle.mid_code.specs.declared.program.MidLine.{MidLine}
@@ -11,7 +10,7 @@ use Rattle.mid_code.specs.declared.access.Access.TheVariants.{Puts, Exits}
 use Rattle.mid_code.specs.Program.{line_at}
 use Rattle.mid_code.specs.Valid.{IsValid}
 use Rattle.mid_code.specs.Machine.{Machine, act}
-use Rattle.mid_code.specs.Meaning.{Step, On, Ends, step, step_by}
+use Rattle.mid_code.specs.Meaning.{On, Ends, step, step_by}
 use Rattle.mid_code.specs.Fits.{Fits, AreWithin}
 use Rattle.mid_code.proofs.Fitting.{within_next, step-at, sound_step, place_small, IsSound}
 use Rattle.mid_run.specs.declared.run.MidRun.TheInside.{Inside}

@@ -2,7 +2,7 @@
 use Rattle.std.specs.Prelude.{◌≡◌, ℕ, ◌+◌, List, Option, Some, None}
 use Rattle.mid_code.specs.declared.mid.Mid.{Mid}
 use Rattle.mid_code.specs.declared.access.Access.{Access}
-use Rattle.mid_code.specs.Machine.{Activation, Machine, Does, Goes, Reaches, act}
+use Rattle.mid_code.specs.Machine.{Activation, Machine, Goes, Reaches, act}
 
 abbrev pub machine_at : ℕ → ℕ → List ℕ → List Activation → Machine
 machine_at function place registers below = record { top = record { function = function; place = place; registers = registers }; below = below }

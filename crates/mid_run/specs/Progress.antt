@@ -1,11 +1,11 @@
 -- What a run on one thread has come to.
-use Rattle.std.specs.Prelude.{◌≡◌, ℕ, List, [], Option, Some, None}
+use Rattle.std.specs.Prelude.{◌≡◌, List, [], Option, Some, None}
 use Rattle.srmt_base.specs.declared.event.Event.{Event}
 use Rattle.srmt_base.specs.declared.trap.SourceEnd.{SourceEnd}
 use Rattle.mid_code.specs.declared.program.MidProgram.{MidProgram}
 use Rattle.mid_code.specs.Machine.{Machine}
 use Rattle.mid_code.specs.Fits.{Fits}
-use Rattle.mid_code.specs.Meaning.{Step, On, Ends, Stuck, step, Finishes}
+use Rattle.mid_code.specs.Meaning.{On, Ends, step, Comes, Finishes}
 
 -- it goes on from a machine, or has ended
 pub data Progress : Type 0 where
@@ -28,7 +28,9 @@ Steps program (At m) events (Over end) = step program m ≡ Ends end events
 Steps program (Over end) events (At next) = ⊥
 Steps program (Over end) events (Over again) = (again ≡ end) × (events ≡ [])
 
--- what is left of the run gives these events, and ends so
-abbrev pub Ends_with : MidProgram → Progress → List Event → SourceEnd → Type 0
-Ends_with program (At m) events end = Finishes program m events end
-Ends_with program (Over before) events end = (end ≡ before) × (events ≡ [])
+-- any number of steps leads from the one to the other, with these events in all
+abbrev pub Runs : MidProgram → Progress → List Event → Progress → Type 0
+Runs program (At m) events (At next) = Comes program m events next
+Runs program (At m) events (Over end) = Finishes program m events end
+Runs program (Over end) events (At next) = ⊥
+Runs program (Over end) events (Over again) = (again ≡ end) × (events ≡ [])

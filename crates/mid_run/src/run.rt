@@ -1,4 +1,4 @@
-ghost use Rattle.std.specs.Prelude.{vec_len, ◌≡◌, ◌≤◌, ◌<◌, ◌^◌, ℕ, List, [], Option, OnOk, OnErr, IfOk, IfErr};
+ghost use Rattle.std.specs.Prelude.{vec_len, ◌≡◌, ◌≤◌, ◌<◌, ◌^◌, ℕ, List, [], Option, Some, OnOk, OnErr, IfOk, IfErr};
 ghost use Rattle.srmt_base.specs.declared.event.Event.{Event};
 ghost use Rattle.srmt_outside.specs.Count.{Rose};
 ghost use Rattle.srmt_outside.specs.Told.{Appends};
@@ -6,7 +6,7 @@ ghost use Rattle.mid_code.specs.Valid.{IsValid};
 ghost use Rattle.mid_code.specs.Meaning.{started};
 ghost use Rattle.mid_code.specs.Fits.{AreWithin};
 ghost use Rattle.mid_run.specs.Acts.{ActsOn};
-ghost use Rattle.mid_run.specs.Progress.{Progress, At, FitsIn, Steps, end_of};
+ghost use Rattle.mid_run.specs.Progress.{Progress, At, FitsIn, Steps, Runs, end_of};
 
 use mid_code::{Access, Mid, MidProgram};
 use srmt_base::{Event, Limits, SourceEnd, convert};
@@ -25,8 +25,8 @@ pub struct MidRun {
 
 impl Model for MidRun {
     ghost use Rattle.mid_code.specs.Fits.{AreWithin};
-ghost use Rattle.mid_run.specs.Acts.{ActsOn};
-ghost use Rattle.mid_run.specs.Progress.{Progress};
+    ghost use Rattle.mid_run.specs.Acts.{ActsOn};
+    ghost use Rattle.mid_run.specs.Progress.{Progress};
 
     ghost Value = { Progress };
 
@@ -36,6 +36,27 @@ ghost use Rattle.mid_run.specs.Progress.{Progress};
 }
 
 impl MidRun {
+    /// Enters `main`. No instruction reads the input yet, and none spends more of the limits than
+    /// the entry of `main`, for which they have room.
+    pub fn start(
+        alloc: Global,
+        program: &MidProgram,
+        _input: Vec<u8>,
+        _limits: Limits,
+    ) -> Result<Self, AllocError>
+        requires { IsValid program.now }
+        ensures started { IfOk result (λ run. run ≡ At (started program.now)) }
+        ensures fits { IfOk result (FitsIn program.now) }
+    {
+        let count = program.function(program.main).map_or(0, |f| f.kinds.len());
+        Ok(MidRun {
+            function: program.main,
+            place: 0,
+            registers: vec![in alloc; 0; count]?,
+            over: None,
+        })
+    }
+
     /// Makes one step: one instruction, with its event. After an end it answers the same end.
     pub fn step<O: Outlet>(
         &mut self,
@@ -75,6 +96,29 @@ impl MidRun {
                 outlet.event(Event::Exit(status))?;
                 self.over = Some(SourceEnd::Exit(status));
                 Ok(self.over)
+            }
+        }
+    }
+
+    /// Runs to the end. After an end it answers the same end.
+    pub fn run<O: Outlet>(
+        &mut self,
+        program: &MidProgram,
+        outlet: &mut O,
+    ) -> Result<SourceEnd, Failed>
+        requires valid { IsValid program.now }
+        requires fits { FitsIn program.now self.old }
+        ensures runs { (events : List Event) × Runs program.now self.old events self.new × Appends (O.events outlet.old) (O.events outlet.new) events }
+        ensures end { IfOk result (λ end. end_of self.new ≡ Some end) }
+        ensures fits { FitsIn program.now self.new }
+
+        // It stops where an event failed, before the instruction that is to give it.
+        ensures failed { OnErr result (Rose (O.faults outlet.old) (O.faults outlet.new)) }
+        ensures never_falls { O.faults outlet.old ≤ O.faults outlet.new }
+    {
+        loop {
+            if let Some(end) = self.step(program, outlet)? {
+                return Ok(end);
             }
         }
     }
