@@ -1,4 +1,4 @@
-ghost use Rattle.std.specs.Prelude.{◌≡◌, ◌^◌, pos, neg_ℤ, ◌<ℤ◌, ◌≤ℤ◌};
+ghost use Rattle.std.specs.Prelude.{◌≡◌, ◌<◌, IfOk, ◌^◌, pos, neg_ℤ, ◌<ℤ◌, ◌≤ℤ◌};
 ghost use Rattle.srmt_base.specs.Types.{IsPromoted};
 ghost use Rattle.srmt_base.specs.Arith.{arith_of, reduced, divided, remaining, shifted_left, shifted_right};
 
@@ -9,7 +9,8 @@ use crate::ty::{Ty, keep};
 /// What an operator gives at a type (C11 6.5.5 to 6.5.12), or the trap that stops it.
 pub fn arith(op: Op, ty: Ty, a: u64, b: u64) -> Result<u64, Trap>
     requires { IsPromoted ty }
-    ensures { result ≡ arith_of op ty a b }
+    ensures exact { result ≡ arith_of op ty a b }
+    ensures small { IfOk result (λ value. value < 2 ^ 32) }
 {
     let x = ty.read(a);
     let y = ty.read(b);
@@ -35,7 +36,8 @@ pub fn arith(op: Op, ty: Ty, a: u64, b: u64) -> Result<u64, Trap>
 }
 
 fn reduce(ty: Ty, value: i64) -> Result<u64, Trap>
-    ensures { result ≡ reduced ty value }
+    ensures exact { result ≡ reduced ty value }
+    ensures small { IfOk result (λ value. value < 2 ^ 32) }
 {
     if ty.is_signed() && !ty.can_hold(value) {
         Err(Trap::Overflow)
@@ -46,7 +48,8 @@ fn reduce(ty: Ty, value: i64) -> Result<u64, Trap>
 
 fn multiply(ty: Ty, a: u64, b: u64) -> Result<u64, Trap>
     requires { IsPromoted ty }
-    ensures { result ≡ arith_of Op.Mul ty a b }
+    ensures exact { result ≡ arith_of Op.Mul ty a b }
+    ensures small { IfOk result (λ value. value < 2 ^ 32) }
 {
     if ty.is_signed() {
         reduce(ty, ty.read(a) * ty.read(b))
@@ -57,7 +60,8 @@ fn multiply(ty: Ty, a: u64, b: u64) -> Result<u64, Trap>
 
 fn divide(ty: Ty, x: i64, y: i64) -> Result<u64, Trap>
     requires { neg_ℤ (pos (2 ^ 31)) ≤ℤ x }
-    ensures { result ≡ divided ty x y }
+    ensures exact { result ≡ divided ty x y }
+    ensures small { IfOk result (λ value. value < 2 ^ 32) }
 {
     if y == 0 {
         Err(Trap::DivideByZero)
@@ -68,7 +72,8 @@ fn divide(ty: Ty, x: i64, y: i64) -> Result<u64, Trap>
 
 fn remain(ty: Ty, x: i64, y: i64) -> Result<u64, Trap>
     requires { neg_ℤ (pos (2 ^ 31)) ≤ℤ x }
-    ensures { result ≡ remaining ty x y }
+    ensures exact { result ≡ remaining ty x y }
+    ensures small { IfOk result (λ value. value < 2 ^ 32) }
 {
     if y == 0 {
         Err(Trap::DivideByZero)
@@ -81,7 +86,8 @@ fn remain(ty: Ty, x: i64, y: i64) -> Result<u64, Trap>
 
 fn shift_left(ty: Ty, x: i64, count: u64) -> Result<u64, Trap>
     requires { x <ℤ pos (2 ^ 32) }
-    ensures { result ≡ shifted_left ty x count }
+    ensures exact { result ≡ shifted_left ty x count }
+    ensures small { IfOk result (λ value. value < 2 ^ 32) }
 {
     if count >= u64::from(ty.width()) {
         Err(Trap::ShiftRange)
@@ -93,7 +99,8 @@ fn shift_left(ty: Ty, x: i64, count: u64) -> Result<u64, Trap>
 }
 
 fn shift_right(ty: Ty, x: i64, count: u64) -> Result<u64, Trap>
-    ensures { result ≡ shifted_right ty x count }
+    ensures exact { result ≡ shifted_right ty x count }
+    ensures small { IfOk result (λ value. value < 2 ^ 32) }
 {
     if count >= u64::from(ty.width()) {
         Err(Trap::ShiftRange)

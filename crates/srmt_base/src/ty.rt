@@ -1,4 +1,4 @@
-ghost use Rattle.std.specs.Prelude.{◌≡◌, ℕ, ◌^◌, ◌↔◌, pos, neg_ℤ, ◌≤ℤ◌, ◌<ℤ◌, IsTrue};
+ghost use Rattle.std.specs.Prelude.{◌≡◌, ◌<◌, ℕ, ◌^◌, ◌↔◌, pos, neg_ℤ, ◌≤ℤ◌, ◌<ℤ◌, IsTrue};
 ghost use Rattle.srmt_base.specs.Types.{width_of, is_signed, least_of, greatest_of, can_hold, IsPromoted, value_at, wrapped, kept};
 
 /// An integer type of the accepted subset of C (C11 6.2.5), in the order of its code, from 0.
@@ -146,7 +146,8 @@ impl Ty {
 
 /// The number as which a value is kept: modulo 2^32.
 pub fn keep(value: i64) -> u64
-    ensures { result ≡ kept value }
+    ensures exact { result ≡ kept value }
+    ensures small { result < 2 ^ 32 }
 {
     value.rem_euclid(1 << 32) as u64
 }
