@@ -1,2 +1,6 @@
+pub mod Conversions
+pub mod Division
 pub mod Integers
+pub mod Order
+pub mod Parts
 pub mod Ranges

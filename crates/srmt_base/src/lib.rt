@@ -10,6 +10,7 @@ mod args;
 mod arithmetic;
 mod conversion;
 mod event;
+pub mod laws;
 mod limits;
 mod op;
 mod pointer;
