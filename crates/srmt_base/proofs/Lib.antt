@@ -1,3 +1,4 @@
+pub mod ArgsLemmas
 pub mod Conversions
 pub mod Division
 pub mod Integers

@@ -1,5 +1,7 @@
-ghost use Rattle.std.specs.Prelude.{◌≡◌, ◌<◌, ℕ, ◌^◌, ◌↔◌, pos, neg_ℤ, ◌≤ℤ◌, ◌<ℤ◌, IsTrue};
-ghost use Rattle.srmt_base.specs.Types.{width_of, is_signed, least_of, greatest_of, can_hold, IsPromoted, value_at, wrapped, kept};
+ghost use Rattle.std.specs.Prelude.{◌≡◌, ◌<◌, ℕ, ◌^◌, ◌↔◌, pos, neg_ℤ, ◌≤ℤ◌, ◌<ℤ◌, IsTrue, IsSome, IfSome};
+ghost use Rattle.srmt_base.specs.Types.{ty_code, width_of, is_signed, least_of, greatest_of, can_hold, IsPromoted, value_at, wrapped, kept};
+
+use crate::codes::in_order;
 
 /// An integer type of the accepted subset of C (C11 6.2.5), in the order of its code, from 0.
 #[derive(Clone, Copy, Debug, PartialEq, Eq)]
@@ -65,7 +67,36 @@ const LAYOUTS: [Layout; 8] = [
     },
 ];
 
+/// The types in the order of their codes.
+const TYPES: [Ty; 8] = [
+    Ty::Bool,
+    Ty::Char,
+    Ty::SChar,
+    Ty::UChar,
+    Ty::Short,
+    Ty::UShort,
+    Ty::Int,
+    Ty::UInt,
+];
+
+const _: () = in_order!(TYPES; 0 1 2 3 4 5 6 7);
+
 impl Ty {
+    /// The code, 0 to 7.
+    pub fn code(self) -> u8
+        ensures { result ≡ ty_code self }
+    {
+        self as u8
+    }
+
+    /// The type of a code, or `None` where the code is above 7.
+    pub fn of_code(code: u8) -> Option<Self>
+        ensures a_code { IsSome result ↔ (code < 8) }
+        ensures same { IfSome result (λ ty. ty_code ty ≡ code) }
+    {
+        TYPES.get(usize::from(code)).copied()
+    }
+
     /// The width in bits, the sign included.
     pub fn width(self) -> u32
         ensures { result ≡ width_of self }
