@@ -106,7 +106,7 @@ static uint32_t convert(int from, int to, uint64_t number) {
 
 int main(void) {
     size_t pairs = sizeof PAIRS / sizeof PAIRS[0], numbers = sizeof NUMBERS / sizeof NUMBERS[0];
-    printf("pub const OPERATIONS: [(Op, Ty, u64, u64, Result<u64, Trap>); %zu] = [\n", 16 * 2 * pairs);
+    printf("pub static OPERATIONS: [(Op, Ty, u64, u64, Result<u64, Trap>); %zu] = [\n", 16 * 2 * pairs);
     for (int op = ADD; op <= NE; op++)
         for (int ty = INT; ty <= UINT; ty++)
             for (size_t i = 0; i < pairs; i++) {
@@ -116,7 +116,7 @@ int main(void) {
                 else at_uint(op, (uint32_t)a, (uint32_t)b);
                 printf("),\n");
             }
-    printf("];\n\npub const CONVERSIONS: [(Ty, Ty, u64, u64); %zu] = [\n", 8 * 8 * numbers);
+    printf("];\n\npub static CONVERSIONS: [(Ty, Ty, u64, u64); %zu] = [\n", 8 * 8 * numbers);
     for (int from = BOOL; from <= UINT; from++)
         for (int to = BOOL; to <= UINT; to++)
             for (size_t i = 0; i < numbers; i++)

@@ -1,10 +1,10 @@
-ghost use Rattle.std.specs.Prelude.{◌≡◌, ◌<◌, IfOk, ◌^◌, pos, neg_ℤ, ◌<ℤ◌, ◌≤ℤ◌};
-ghost use Rattle.srmt_base.specs.Types.{IsPromoted};
+ghost use Rattle.std.specs.Prelude.{◌≡◌, ◌<◌, ◌^◌, ◌↔◌, IsTrue, IfOk, pos, neg_ℤ, ◌<ℤ◌, ◌≤ℤ◌};
+ghost use Rattle.srmt_base.specs.Types.{width_of, IsPromoted};
 ghost use Rattle.srmt_base.specs.Arith.{arith_of, reduced, divided, remaining, shifted_left, shifted_right};
 
 use crate::op::Op;
 use crate::trap::Trap;
-use crate::ty::{Ty, keep};
+use crate::ty::{KEPT, Ty, keep};
 
 /// What an operator gives at a type (C11 6.5.5 to 6.5.12), or the trap that stops it.
 pub fn arith(op: Op, ty: Ty, a: u64, b: u64) -> Result<u64, Trap>
@@ -14,7 +14,7 @@ pub fn arith(op: Op, ty: Ty, a: u64, b: u64) -> Result<u64, Trap>
 {
     let x = ty.read(a);
     let y = ty.read(b);
-    let count = b % (1 << 32);
+    let count = b % KEPT;
     match op {
         Op::Add => reduce(ty, x + y),
         Op::Sub => reduce(ty, x - y),
@@ -23,9 +23,9 @@ pub fn arith(op: Op, ty: Ty, a: u64, b: u64) -> Result<u64, Trap>
         Op::Rem => remain(ty, x, y),
         Op::Shl => shift_left(ty, x, count),
         Op::Shr => shift_right(ty, x, count),
-        Op::And => Ok((a % (1 << 32)) & (b % (1 << 32))),
-        Op::Or => Ok((a % (1 << 32)) | (b % (1 << 32))),
-        Op::Xor => Ok((a % (1 << 32)) ^ (b % (1 << 32))),
+        Op::And => Ok((a % KEPT) & (b % KEPT)),
+        Op::Or => Ok((a % KEPT) | (b % KEPT)),
+        Op::Xor => Ok((a % KEPT) ^ (b % KEPT)),
         Op::Lt => Ok(u64::from(x < y)),
         Op::Gt => Ok(u64::from(x > y)),
         Op::Le => Ok(u64::from(x <= y)),
@@ -54,7 +54,7 @@ fn multiply(ty: Ty, a: u64, b: u64) -> Result<u64, Trap>
     if ty.is_signed() {
         reduce(ty, ty.read(a) * ty.read(b))
     } else {
-        Ok((a % (1 << 32)) * (b % (1 << 32)) % (1 << 32))
+        Ok((a % KEPT) * (b % KEPT) % KEPT)
     }
 }
 
@@ -84,12 +84,19 @@ fn remain(ty: Ty, x: i64, y: i64) -> Result<u64, Trap>
     }
 }
 
+/// Whether a count is below the width.
+fn can_shift(ty: Ty, count: u64) -> bool
+    ensures { IsTrue result ↔ (count < width_of ty) }
+{
+    count < u64::from(ty.width())
+}
+
 fn shift_left(ty: Ty, x: i64, count: u64) -> Result<u64, Trap>
     requires { x <ℤ pos (2 ^ 32) }
     ensures exact { result ≡ shifted_left ty x count }
     ensures small { IfOk result (λ value. value < 2 ^ 32) }
 {
-    if count >= u64::from(ty.width()) {
+    if !can_shift(ty, count) {
         Err(Trap::ShiftRange)
     } else if x < 0 {
         Err(Trap::Overflow)
@@ -102,9 +109,9 @@ fn shift_right(ty: Ty, x: i64, count: u64) -> Result<u64, Trap>
     ensures exact { result ≡ shifted_right ty x count }
     ensures small { IfOk result (λ value. value < 2 ^ 32) }
 {
-    if count >= u64::from(ty.width()) {
-        Err(Trap::ShiftRange)
-    } else {
+    if can_shift(ty, count) {
         Ok(keep(x >> count))
+    } else {
+        Err(Trap::ShiftRange)
     }
 }

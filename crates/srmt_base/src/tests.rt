@@ -7,11 +7,11 @@ use crate::{
 
 #[test]
 fn computes_what_gcc_computes(rt: HostRuntime) {
-    for (op, ty, a, b, outcome) in table::OPERATIONS {
+    for (op, ty, a, b, outcome) in &table::OPERATIONS {
         assert!(rt; ty.is_promoted());
         assert_eq!(rt;
-            arith(op, ty, a, b),
-            outcome,
+            arith(*op, *ty, *a, *b),
+            *outcome,
             "{op:?} at {ty:?} of {a} and {b}"
         );
     }
@@ -19,8 +19,12 @@ fn computes_what_gcc_computes(rt: HostRuntime) {
 
 #[test]
 fn converts_as_gcc_does(rt: HostRuntime) {
-    for (from, to, a, outcome) in table::CONVERSIONS {
-        assert_eq!(rt; convert(from, to, a), outcome, "{from:?} to {to:?} of {a}");
+    for (from, to, a, outcome) in &table::CONVERSIONS {
+        assert_eq!(rt;
+            convert(*from, *to, *a),
+            *outcome,
+            "{from:?} to {to:?} of {a}"
+        );
     }
 }
 

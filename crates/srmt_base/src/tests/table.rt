@@ -8,7 +8,7 @@ use crate::ty::Ty;
 use crate::ty::Ty::{Bool, Char, Int, SChar, Short, UChar, UInt, UShort};
 
 /// An operator, a type, two numbers, and what gcc computes.
-pub const OPERATIONS: [(Op, Ty, u64, u64, Result<u64, Trap>); 320] = [
+pub static OPERATIONS: [(Op, Ty, u64, u64, Result<u64, Trap>); 320] = [
     (Add, Int, 7, 2, Ok(9)),
     (Add, Int, 4294967289, 2, Ok(4294967291)),
     (Add, Int, 7, 4294967294, Ok(5)),
@@ -332,7 +332,7 @@ pub const OPERATIONS: [(Op, Ty, u64, u64, Result<u64, Trap>); 320] = [
 ];
 
 /// A type, a type to convert to, a number, and what gcc converts it to.
-pub const CONVERSIONS: [(Ty, Ty, u64, u64); 320] = [
+pub static CONVERSIONS: [(Ty, Ty, u64, u64); 320] = [
     (Bool, Bool, 0, 0),
     (Bool, Bool, 200, 1),
     (Bool, Bool, 256, 1),
