@@ -1,2 +1,7 @@
+pub mod ArgsLemmas
+pub mod Conversions
+pub mod Division
 pub mod Integers
+pub mod Order
+pub mod Parts
 pub mod Ranges

@@ -1,6 +1,6 @@
 -- How large the results of arithmetic and conversions are.
-use Rattle.std.proofs.Common.{◌≡◌, ℕ, ◌+◌, ◌*◌, ◌-◌, ◌/◌, ◌%◌, ◌^◌, ◌<◌, ◌≤◌, ℤ, pos, negsuc, ◌+ℤ◌, ◌-ℤ◌, ◌*ℤ◌, Bool, true, false, arith, subst, refl}
-use Rattle.std.specs.Prelude.{IfOk, Result, Ok, Err, unsigned_abs, not, ◌&&◌, ◌==◌, nat_le, int_div, int_rem, if◌then◌else◌}
+use Rattle.std.proofs.Common.{◌≡◌, ℕ, ◌^◌, ◌<◌, ◌≤◌, ℤ, pos, negsuc, ◌+ℤ◌, ◌-ℤ◌, ◌*ℤ◌, Bool, true, false, arith, refl}
+use Rattle.std.specs.Prelude.{IfOk, Result, unsigned_abs, not, ◌&&◌, ◌==◌, nat_le, int_div, int_rem, if◌then◌else◌}
 use Rattle.std.specs.Int.{from_bool, is_negative, int_div_euclid}
 use Rattle.std.specs.Int.Bits.{and_lt}
 use Rattle.std.proofs.lemmas.Nat.{or_lt, xor_lt}
@@ -9,9 +9,8 @@ use Rattle.std.specs.Ordering.{int_eq}
 use Rattle.srmt_base.specs.declared.op.Op.{Op}
 use Rattle.srmt_base.specs.declared.op.Op.TheVariants.{Add, Sub, Mul, Div, Rem, Shl, Shr, And, Or, Xor, Lt, Gt, Le, Ge, Eq, Ne}
 use Rattle.srmt_base.specs.declared.trap.Trap.{Trap}
-use Rattle.srmt_base.specs.declared.trap.Trap.TheVariants.{Overflow, DivideByZero, ShiftRange, NullPointer, OutsideObject, OtherObject}
 use Rattle.srmt_base.specs.declared.ty.Ty.{Ty}
-use Rattle.srmt_base.specs.Types.{is_signed, can_hold, kept_at, kept, low_bits, value_at, width_of}
+use Rattle.srmt_base.specs.Types.{is_signed, can_hold, kept, value_at, width_of}
 use Rattle.srmt_base.specs.Arith.{arith_of, reduced, divided, remaining, shifted_left, shifted_right, bits_at, compares}
 use Rattle.srmt_base.specs.Convert.{converted, convert_of}
 use Rattle.srmt_base.specs.Pointer.{object_of, offset_of, pointer_of, moved, amount_of, pointer_sum_of, pointer_difference_of, pointer_comparison_of, is_equality, is_offset}

@@ -9,6 +9,25 @@ use Rattle.srmt_base.specs.declared.trap.Trap.TheVariants.{Overflow, DivideByZer
 use Rattle.srmt_base.specs.declared.ty.Ty.{Ty}
 use Rattle.srmt_base.specs.Types.{width_of, is_signed, kept_width_of, value_at, kept_at, can_hold}
 
+-- the code of an operator
+abbrev pub op_code : Op → ℕ
+op_code Add = 0
+op_code Sub = 1
+op_code Mul = 2
+op_code Div = 3
+op_code Rem = 4
+op_code Shl = 5
+op_code Shr = 6
+op_code And = 7
+op_code Or = 8
+op_code Xor = 9
+op_code Lt = 10
+op_code Gt = 11
+op_code Le = 12
+op_code Ge = 13
+op_code Eq = 14
+op_code Ne = 15
+
 -- a result as a value of a type: a signed type must be able to represent it (C11 6.5p5), and an
 -- unsigned one keeps it modulo 2 to its width (C11 6.2.5p9)
 abbrev pub reduced : Ty → ℤ → Result ℕ Trap

@@ -1,6 +1,7 @@
 pub mod Args
 pub mod Arith
 pub mod Convert
+pub mod Laws
 pub mod Pointer
 pub mod Trap
 pub mod Types

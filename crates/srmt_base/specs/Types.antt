@@ -4,6 +4,17 @@ use Rattle.std.specs.Int.{int_rem_euclid}
 use Rattle.srmt_base.specs.declared.ty.Ty.{Ty}
 use Rattle.srmt_base.specs.declared.ty.Ty.TheVariants.{Bool, Char, SChar, UChar, Short, UShort, Int, UInt}
 
+-- the code of a type
+abbrev pub ty_code : Ty → ℕ
+ty_code Bool = 0
+ty_code Char = 1
+ty_code SChar = 2
+ty_code UChar = 3
+ty_code Short = 4
+ty_code UShort = 5
+ty_code Int = 6
+ty_code UInt = 7
+
 -- the width of a type in bits, its sign included (C11 6.2.6.2p6)
 abbrev pub width_of : Ty → ℕ
 width_of Bool = 1

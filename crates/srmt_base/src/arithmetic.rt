@@ -1,19 +1,20 @@
-ghost use Rattle.std.specs.Prelude.{◌≡◌, ◌^◌, pos, neg_ℤ, ◌<ℤ◌, ◌≤ℤ◌};
-ghost use Rattle.srmt_base.specs.Types.{IsPromoted};
+ghost use Rattle.std.specs.Prelude.{◌≡◌, ◌<◌, ◌^◌, ◌↔◌, IsTrue, IfOk, pos, neg_ℤ, ◌<ℤ◌, ◌≤ℤ◌};
+ghost use Rattle.srmt_base.specs.Types.{width_of, IsPromoted};
 ghost use Rattle.srmt_base.specs.Arith.{arith_of, reduced, divided, remaining, shifted_left, shifted_right};
 
 use crate::op::Op;
 use crate::trap::Trap;
-use crate::ty::{Ty, keep};
+use crate::ty::{KEPT, Ty, keep};
 
 /// What an operator gives at a type (C11 6.5.5 to 6.5.12), or the trap that stops it.
 pub fn arith(op: Op, ty: Ty, a: u64, b: u64) -> Result<u64, Trap>
     requires { IsPromoted ty }
-    ensures { result ≡ arith_of op ty a b }
+    ensures exact { result ≡ arith_of op ty a b }
+    ensures small { IfOk result (λ value. value < 2 ^ 32) }
 {
     let x = ty.read(a);
     let y = ty.read(b);
-    let count = b % (1 << 32);
+    let count = b % KEPT;
     match op {
         Op::Add => reduce(ty, x + y),
         Op::Sub => reduce(ty, x - y),
@@ -22,9 +23,9 @@ pub fn arith(op: Op, ty: Ty, a: u64, b: u64) -> Result<u64, Trap>
         Op::Rem => remain(ty, x, y),
         Op::Shl => shift_left(ty, x, count),
         Op::Shr => shift_right(ty, x, count),
-        Op::And => Ok((a % (1 << 32)) & (b % (1 << 32))),
-        Op::Or => Ok((a % (1 << 32)) | (b % (1 << 32))),
-        Op::Xor => Ok((a % (1 << 32)) ^ (b % (1 << 32))),
+        Op::And => Ok((a % KEPT) & (b % KEPT)),
+        Op::Or => Ok((a % KEPT) | (b % KEPT)),
+        Op::Xor => Ok((a % KEPT) ^ (b % KEPT)),
         Op::Lt => Ok(u64::from(x < y)),
         Op::Gt => Ok(u64::from(x > y)),
         Op::Le => Ok(u64::from(x <= y)),
@@ -35,7 +36,8 @@ pub fn arith(op: Op, ty: Ty, a: u64, b: u64) -> Result<u64, Trap>
 }
 
 fn reduce(ty: Ty, value: i64) -> Result<u64, Trap>
-    ensures { result ≡ reduced ty value }
+    ensures exact { result ≡ reduced ty value }
+    ensures small { IfOk result (λ value. value < 2 ^ 32) }
 {
     if ty.is_signed() && !ty.can_hold(value) {
         Err(Trap::Overflow)
@@ -46,18 +48,20 @@ fn reduce(ty: Ty, value: i64) -> Result<u64, Trap>
 
 fn multiply(ty: Ty, a: u64, b: u64) -> Result<u64, Trap>
     requires { IsPromoted ty }
-    ensures { result ≡ arith_of Op.Mul ty a b }
+    ensures exact { result ≡ arith_of Op.Mul ty a b }
+    ensures small { IfOk result (λ value. value < 2 ^ 32) }
 {
     if ty.is_signed() {
         reduce(ty, ty.read(a) * ty.read(b))
     } else {
-        Ok((a % (1 << 32)) * (b % (1 << 32)) % (1 << 32))
+        Ok((a % KEPT) * (b % KEPT) % KEPT)
     }
 }
 
 fn divide(ty: Ty, x: i64, y: i64) -> Result<u64, Trap>
     requires { neg_ℤ (pos (2 ^ 31)) ≤ℤ x }
-    ensures { result ≡ divided ty x y }
+    ensures exact { result ≡ divided ty x y }
+    ensures small { IfOk result (λ value. value < 2 ^ 32) }
 {
     if y == 0 {
         Err(Trap::DivideByZero)
@@ -68,7 +72,8 @@ fn divide(ty: Ty, x: i64, y: i64) -> Result<u64, Trap>
 
 fn remain(ty: Ty, x: i64, y: i64) -> Result<u64, Trap>
     requires { neg_ℤ (pos (2 ^ 31)) ≤ℤ x }
-    ensures { result ≡ remaining ty x y }
+    ensures exact { result ≡ remaining ty x y }
+    ensures small { IfOk result (λ value. value < 2 ^ 32) }
 {
     if y == 0 {
         Err(Trap::DivideByZero)
@@ -79,11 +84,19 @@ fn remain(ty: Ty, x: i64, y: i64) -> Result<u64, Trap>
     }
 }
 
+/// Whether a count is below the width.
+fn can_shift(ty: Ty, count: u64) -> bool
+    ensures { IsTrue result ↔ (count < width_of ty) }
+{
+    count < u64::from(ty.width())
+}
+
 fn shift_left(ty: Ty, x: i64, count: u64) -> Result<u64, Trap>
     requires { x <ℤ pos (2 ^ 32) }
-    ensures { result ≡ shifted_left ty x count }
+    ensures exact { result ≡ shifted_left ty x count }
+    ensures small { IfOk result (λ value. value < 2 ^ 32) }
 {
-    if count >= u64::from(ty.width()) {
+    if !can_shift(ty, count) {
         Err(Trap::ShiftRange)
     } else if x < 0 {
         Err(Trap::Overflow)
@@ -93,11 +106,12 @@ fn shift_left(ty: Ty, x: i64, count: u64) -> Result<u64, Trap>
 }
 
 fn shift_right(ty: Ty, x: i64, count: u64) -> Result<u64, Trap>
-    ensures { result ≡ shifted_right ty x count }
+    ensures exact { result ≡ shifted_right ty x count }
+    ensures small { IfOk result (λ value. value < 2 ^ 32) }
 {
-    if count >= u64::from(ty.width()) {
-        Err(Trap::ShiftRange)
-    } else {
+    if can_shift(ty, count) {
         Ok(keep(x >> count))
+    } else {
+        Err(Trap::ShiftRange)
     }
 }

@@ -8,8 +8,10 @@
 
 mod args;
 mod arithmetic;
+mod codes;
 mod conversion;
 mod event;
+pub mod laws;
 mod limits;
 mod op;
 mod pointer;
@@ -29,3 +31,6 @@ pub use side::Side;
 pub use trap::{SourceEnd, Trap};
 pub use ty::Ty;
 pub use word::{Kind, Site, Word, pack};
+
+#[cfg(test)]
+mod tests;

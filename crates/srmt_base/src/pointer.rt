@@ -1,4 +1,4 @@
-ghost use Rattle.std.specs.Prelude.{◌≡◌, ◌<◌, ◌≤◌, ◌^◌, unsigned_abs, IsTrue};
+ghost use Rattle.std.specs.Prelude.{◌≡◌, IfOk, ◌<◌, ◌≤◌, ◌^◌, unsigned_abs, IsTrue};
 ghost use Rattle.srmt_base.specs.Arith.{is_comparison};
 ghost use Rattle.srmt_base.specs.Pointer.{amount_of, moved, pointer_sum_of, pointer_difference_of, pointer_comparison_of};
 
@@ -11,7 +11,8 @@ const OFFSETS: u64 = 1 << 16;
 
 /// The sum of a pointer and an index of a type, in cells of a scale, or their difference (C11 6.5.6).
 pub fn pointer_sum(p: u64, ty: Ty, index: u64, negated: bool, scale: u16) -> Result<u64, Trap>
-    ensures { result ≡ pointer_sum_of p ty index negated scale }
+    ensures exact { result ≡ pointer_sum_of p ty index negated scale }
+    ensures small { p < 2 ^ 44 → IfOk result (λ sum. sum < 2 ^ 44) }
 {
     advance(p, amount(ty, index, negated, scale))
 }
@@ -28,7 +29,8 @@ fn amount(ty: Ty, index: u64, negated: bool, scale: u16) -> i64
 /// The pointer that lies an amount of cells further.
 fn advance(p: u64, amount: i64) -> Result<u64, Trap>
     requires { unsigned_abs amount < 2 ^ 48 }
-    ensures { result ≡ moved p amount }
+    ensures exact { result ≡ moved p amount }
+    ensures small { p < 2 ^ 44 → IfOk result (λ sum. sum < 2 ^ 44) }
 {
     if p / OFFSETS == 0 {
         return if amount == 0 {
@@ -38,7 +40,7 @@ fn advance(p: u64, amount: i64) -> Result<u64, Trap>
         };
     }
     let offset = (p % OFFSETS) as i64 + amount;
-    if 0 <= offset && offset <= 65535 {
+    if 0 <= offset && offset < OFFSETS as i64 {
         Ok(p / OFFSETS * OFFSETS + offset as u64)
     } else {
         Err(Trap::OutsideObject)
@@ -48,7 +50,8 @@ fn advance(p: u64, amount: i64) -> Result<u64, Trap>
 /// The difference of two pointers into one object, in elements of a scale, as an `int` (C11 6.5.6).
 pub fn pointer_difference(p: u64, q: u64, scale: u16) -> Result<u64, Trap>
     requires { 1 ≤ scale }
-    ensures { result ≡ pointer_difference_of p q scale }
+    ensures exact { result ≡ pointer_difference_of p q scale }
+    ensures small { IfOk result (λ difference. difference < 2 ^ 32) }
 {
     if p / OFFSETS == q / OFFSETS {
         let cells = (p % OFFSETS) as i64 - (q % OFFSETS) as i64;
@@ -61,7 +64,8 @@ pub fn pointer_difference(p: u64, q: u64, scale: u16) -> Result<u64, Trap>
 /// A comparison of two pointers (C11 6.5.8, 6.5.9).
 pub fn pointer_comparison(op: Op, p: u64, q: u64) -> Result<u64, Trap>
     requires { IsTrue (is_comparison op) }
-    ensures { result ≡ pointer_comparison_of op p q }
+    ensures exact { result ≡ pointer_comparison_of op p q }
+    ensures small { IfOk result (λ outcome. outcome < 2) }
 {
     let same = p / OFFSETS == q / OFFSETS;
     let (x, y) = (p % OFFSETS, q % OFFSETS);

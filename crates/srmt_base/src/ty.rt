@@ -1,5 +1,7 @@
-ghost use Rattle.std.specs.Prelude.{◌≡◌, ℕ, ◌^◌, ◌↔◌, pos, neg_ℤ, ◌≤ℤ◌, ◌<ℤ◌, IsTrue};
-ghost use Rattle.srmt_base.specs.Types.{width_of, is_signed, least_of, greatest_of, can_hold, IsPromoted, value_at, wrapped, kept};
+ghost use Rattle.std.specs.Prelude.{◌≡◌, ◌<◌, ℕ, ◌^◌, ◌↔◌, pos, neg_ℤ, ◌≤ℤ◌, ◌<ℤ◌, IsTrue, IsSome, IfSome};
+ghost use Rattle.srmt_base.specs.Types.{ty_code, width_of, is_signed, least_of, greatest_of, can_hold, IsPromoted, value_at, wrapped, kept};
+
+use crate::codes::in_order;
 
 /// An integer type of the accepted subset of C (C11 6.2.5), in the order of its code, from 0.
 #[derive(Clone, Copy, Debug, PartialEq, Eq)]
@@ -22,62 +24,65 @@ pub enum Ty {
     UInt,
 }
 
-/// How the values of a type are laid out.
+/// A type, its width in bits, and whether it has a sign.
 #[derive(Clone, Copy)]
-struct Layout {
+struct Row {
+    ty: Ty,
     width: u32,
     signed: bool,
 }
 
-/// The layout of each type, in the order of the codes.
-const LAYOUTS: [Layout; 8] = [
-    Layout {
-        width: 1,
-        signed: false,
-    },
-    Layout {
-        width: 8,
-        signed: true,
-    },
-    Layout {
-        width: 8,
-        signed: true,
-    },
-    Layout {
-        width: 8,
-        signed: false,
-    },
-    Layout {
-        width: 16,
-        signed: true,
-    },
-    Layout {
-        width: 16,
-        signed: false,
-    },
-    Layout {
-        width: 32,
-        signed: true,
-    },
-    Layout {
-        width: 32,
-        signed: false,
-    },
-];
+macro_rules! rows {
+    ($($ty:ident: $width:literal $signed:literal;)*) => {
+        [$(Row { ty: Ty::$ty, width: $width, signed: $signed }),*]
+    };
+}
+
+/// The types in the order of their codes.
+const TYPES: [Row; 8] = rows! {
+    Bool: 1 false;
+    Char: 8 true;
+    SChar: 8 true;
+    UChar: 8 false;
+    Short: 16 true;
+    UShort: 16 false;
+    Int: 32 true;
+    UInt: 32 false;
+};
+
+const _: () = in_order!(TYPES.ty; 0 1 2 3 4 5 6 7);
+
+/// A value is kept modulo this number.
+pub const KEPT: u64 = 1 << 32;
 
 impl Ty {
+    /// The code, 0 to 7.
+    pub fn code(self) -> u8
+        ensures { result ≡ ty_code self }
+    {
+        self as u8
+    }
+
+    /// The type of a code, or `None` where the code is above 7.
+    pub fn of_code(code: u8) -> Option<Self>
+        ensures a_code { IsSome result ↔ (code < 8) }
+        ensures same { IfSome result (λ ty. ty_code ty ≡ code) }
+    {
+        TYPES.get(usize::from(code)).map(|row| row.ty)
+    }
+
     /// The width in bits, the sign included.
     pub fn width(self) -> u32
         ensures { result ≡ width_of self }
     {
-        LAYOUTS[self as usize].width
+        TYPES[self as usize].width
     }
 
     /// Whether the type has a sign.
     pub fn is_signed(self) -> bool
         ensures { result ≡ is_signed self }
     {
-        LAYOUTS[self as usize].signed
+        TYPES[self as usize].signed
     }
 
     /// Whether arithmetic is made at the type: `int` or `unsigned int`.
@@ -122,9 +127,9 @@ impl Ty {
         ensures least { neg_ℤ (pos (2 ^ 31)) ≤ℤ result }
         ensures greatest { result <ℤ pos (2 ^ 32) }
     {
-        let low = (number % (1 << 32)) as i64;
+        let low = (number % KEPT) as i64;
         if self.is_signed() && low >= 1 << 31 {
-            low - (1 << 32)
+            low - KEPT as i64
         } else {
             low
         }
@@ -146,7 +151,8 @@ impl Ty {
 
 /// The number as which a value is kept: modulo 2^32.
 pub fn keep(value: i64) -> u64
-    ensures { result ≡ kept value }
+    ensures exact { result ≡ kept value }
+    ensures small { result < 2 ^ 32 }
 {
-    value.rem_euclid(1 << 32) as u64
+    value.rem_euclid(KEPT as i64) as u64
 }

@@ -3,8 +3,8 @@ use Rattle.std.proofs.lemmas.Int.{ints}
 use Rattle.srmt_base.specs.Arith.{reduced}
 use Rattle.srmt_base.proofs.arithmetic.arith.Goals as goal
 
-pub returns-in-Add : goal.returns-in-Add
-returns-in-Add c = rw c.in-Add.is (c.reduce.ensures ∙ ap (reduced c.args.ty) (omega (arith, ints)))
+pub returns-in-Add-clause-exact : goal.returns-in-Add-clause-exact
+returns-in-Add-clause-exact c = rw c.in-Add.is (c.reduce.ensures.exact ∙ ap (reduced c.args.ty) (omega (arith, ints)))
 
-pub returns-in-Sub : goal.returns-in-Sub
-returns-in-Sub c = rw c.in-Sub.is (c.reduce-in-Sub.ensures ∙ ap (reduced c.args.ty) (omega (arith, ints)))
+pub returns-in-Sub-clause-exact : goal.returns-in-Sub-clause-exact
+returns-in-Sub-clause-exact c = rw c.in-Sub.is (c.reduce-in-Sub.ensures.exact ∙ ap (reduced c.args.ty) (omega (arith, ints)))

@@ -5,8 +5,8 @@ use Rattle.srmt_base.specs.Types.{is_signed}
 use Rattle.srmt_base.proofs.Integers.{unsigned_abs-value_at}
 use Rattle.srmt_base.proofs.arithmetic.multiply.Goals as goal
 
-pub returns-then-is_signed : goal.returns-then-is_signed
-returns-then-is_signed c =
+pub returns-then-is_signed-clause-exact : goal.returns-then-is_signed-clause-exact
+returns-then-is_signed-clause-exact c =
     let x = c.read.result in
     let y = c.read-then-is_signed.result in
     let signed : is_signed c.args.ty ≡ true = sym c.is_signed.ensures ∙ c.if-is_signed.true in
@@ -15,5 +15,5 @@ returns-then-is_signed c =
     let x-is : to_z w64 (of_z w64 x) ≡ x = to_z-of_z w64 x (search rules) in
     let y-is : to_z w64 (of_z w64 y) ≡ y = to_z-of_z w64 y (search rules) in
     let fits : FitsSigned w64 (x *ℤ y) = fits_signed_mul w64 x y (2 ^ 31) (2 ^ 31) x-small y-small (lit< tt) in
-    let e = rw (x-is, y-is, to_z-of_z w64 (x *ℤ y) fits, c.read.ensures.value, c.read-then-is_signed.ensures.value) at c.reduce.ensures in
+    let e = rw (x-is, y-is, to_z-of_z w64 (x *ℤ y) fits, c.read.ensures.value, c.read-then-is_signed.ensures.value) at c.reduce.ensures.exact in
     e

@@ -14,12 +14,12 @@ overflow_mul-x c =
     let sign : is_negative c.args.x ≡ false = rw x-is at c.if-x-lt0.false in
     rw (x-is, power_is c.args.count below) (product_fits c.args.x c.args.count sign c.requires below)
 
-pub returns-else-x-lt0 : goal.returns-else-x-lt0
-returns-else-x-lt0 c =
+pub returns-else-x-lt0-clause-exact : goal.returns-else-x-lt0-clause-exact
+returns-else-x-lt0-clause-exact c =
     let below : c.args.count < 32 = omega (arith, width_of-le c.args.ty) in
     let within : nat_le (width_of c.args.ty) c.args.count ≡ false = grind (arith, nat_tests) in
     let x-is = to_z-of_z w64 c.args.x c.ranges.x in
     let sign : is_negative c.args.x ≡ false = rw x-is at c.if-x-lt0.false in
     let fits = product_fits c.args.x c.args.count sign c.requires below in
     rw (within, sign)
-    (rw (x-is, power_is c.args.count below, to_z-of_z w64 (c.args.x *ℤ pos (2 ^ c.args.count)) fits) at c.reduce.ensures)
+    (rw (x-is, power_is c.args.count below, to_z-of_z w64 (c.args.x *ℤ pos (2 ^ c.args.count)) fits) at c.reduce.ensures.exact)
