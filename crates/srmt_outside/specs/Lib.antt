@@ -1,4 +1,9 @@
 pub mod Count
+pub mod Files
+pub mod MemFiles
 pub mod MemOutlet
+pub mod MemSink
+pub mod Shelf
+pub mod SureFiles
 pub mod SureOutlet
 pub mod Told
