@@ -1,0 +1,79 @@
+ghost use Rattle.std.specs.Prelude.{◌≡◌, ℕ, ◌^◌, ◌<◌, ◌≤◌, IfOk, IfErr, OnOk, OnErr};
+ghost use Rattle.srmt_base.specs.Objects.{start_of, load_of, put_of, set_up_of};
+
+use crate::table::{Row, reach};
+use srmt_base::Trap;
+use std::alloc::{AllocError, Global};
+use std::marker::Model;
+
+/// One part of a program's memory.
+#[derive(Debug, Drop)]
+pub struct Store {
+    budget: u32,
+    fresh: u64,
+    rows: Vec<Row>,
+    cells: Vec<u64>,
+}
+
+impl Model for Store {
+    ghost use Rattle.srmt_base.specs.Objects.{Objects};
+    ghost use Rattle.std.specs.Prelude.{map, vec_capacity};
+    ghost use Rattle.cell_store.specs.Flat.{object_in, IsFlat};
+
+    ghost Value = { Objects };
+
+    ghost view = { λ s. record { budget = s.budget; fresh = s.fresh; live = map (object_in s.cells.items) s.rows.items } };
+
+    ghost invariant = { λ s. IsFlat s.budget s.fresh s.rows.items s.cells.items (vec_capacity s.rows) (vec_capacity s.cells) };
+}
+
+impl Store {
+    /// A store with no object, for a number of cells and for the numbers from `first` on. It takes
+    /// the memory of all cells and of as many objects: 20 bytes a cell.
+    pub fn start(alloc: Global, cells: u32, first: u32) -> Result<Self, AllocError>
+        requires { cells ≤ 1048576 }
+        ensures { IfOk result (λ store. store ≡ start_of cells first) }
+    {
+        let rows = Vec::with_capacity(alloc, cells as usize)?;
+        let row = Vec::with_capacity(alloc, cells as usize)?;
+        Ok(Store {
+            budget: cells,
+            fresh: u64::from(first),
+            rows,
+            cells: row,
+        })
+    }
+
+    /// The value of a cell.
+    pub fn load(&self, pointer: u64) -> Result<u64, Trap>
+        ensures value { result ≡ load_of self.now pointer }
+        ensures small { IfOk result (λ value. value < 2 ^ 44) }
+    {
+        let at = reach(&self.rows, pointer, false)?;
+        Ok(self.cells[at])
+    }
+
+    /// Writes a cell.
+    pub fn put(&mut self, pointer: u64, value: u64) -> Result<(), Trap>
+        requires { value < 2 ^ 44 }
+        ensures ok { OnOk result (put_of self.old pointer value ≡ Ok self.new) }
+        ensures trap { IfErr result (λ trap. put_of self.old pointer value ≡ Err trap) }
+        ensures err { OnErr result (self.new ≡ self.old) }
+    {
+        let at = reach(&self.rows, pointer, true)?;
+        self.cells[at] = value;
+        Ok(())
+    }
+
+    /// Gives a cell its starting value, also in an object that may only be read.
+    pub fn set_up(&mut self, pointer: u64, value: u64) -> Result<(), Trap>
+        requires { value < 2 ^ 44 }
+        ensures ok { OnOk result (set_up_of self.old pointer value ≡ Ok self.new) }
+        ensures trap { IfErr result (λ trap. set_up_of self.old pointer value ≡ Err trap) }
+        ensures err { OnErr result (self.new ≡ self.old) }
+    {
+        let at = reach(&self.rows, pointer, false)?;
+        self.cells[at] = value;
+        Ok(())
+    }
+}
