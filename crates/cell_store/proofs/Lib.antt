@@ -1,3 +1,4 @@
 pub mod Rows
 pub mod Halving
 pub mod Access
+pub mod Begin

@@ -1,5 +1,5 @@
 ghost use Rattle.std.specs.Prelude.{◌≡◌, ℕ, ◌^◌, ◌<◌, ◌≤◌, IfOk, IfErr, OnOk, OnErr};
-ghost use Rattle.srmt_base.specs.Objects.{start_of, load_of, put_of, set_up_of};
+ghost use Rattle.srmt_base.specs.Objects.{start_of, add_of, load_of, put_of, set_up_of};
 
 use crate::table::{Row, reach};
 use srmt_base::Trap;
@@ -42,6 +42,36 @@ impl Store {
             rows,
             cells: row,
         })
+    }
+
+    /// Begins an object of zeros behind all others. The answer is `Store` exactly where the number is
+    /// below `first` or not above each number added before, or where more cells than the store was
+    /// started with would live.
+    pub fn add(&mut self, number: u32, cells: u16, read_only: bool) -> Result<(), Trap>
+        requires { 1 ≤ cells }
+        ensures ok { OnOk result (add_of self.old number cells read_only ≡ Ok self.new) }
+        ensures trap { IfErr result (λ trap. add_of self.old number cells read_only ≡ Err trap) }
+        ensures err { OnErr result (self.new ≡ self.old) }
+    {
+        let used = self.cells.len();
+        let room = self.budget as usize - used;
+        if u64::from(number) < self.fresh || room < cells as usize {
+            return Err(Trap::Store);
+        }
+        let row = Row {
+            number,
+            start: used as u32,
+            cells,
+            read_only,
+        };
+        let Ok(()) = self.rows.push(row) else {
+            unreachable!();
+        };
+        let Ok(()) = self.cells.resize(used + cells as usize, 0) else {
+            unreachable!();
+        };
+        self.fresh = u64::from(number) + 1;
+        Ok(())
     }
 
     /// The value of a cell.
