@@ -2,3 +2,4 @@ pub mod Rows
 pub mod Halving
 pub mod Access
 pub mod Begin
+pub mod End

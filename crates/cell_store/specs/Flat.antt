@@ -1,5 +1,5 @@
 -- How a store keeps its objects: one row of cells, and a table of the live objects in order of number.
-use Rattle.std.specs.Prelude.{◌≡◌, ℕ, ◌+◌, ◌^◌, ◌<◌, ◌≤◌, ◌==◌, nat_le, Bool, ◌&&◌, if◌then◌else◌, List, [], ◌∷◌, length, slice_index_or, find, take, drop, All, Option, Some, None, Result, Ok, Err}
+use Rattle.std.specs.Prelude.{◌≡◌, ℕ, ◌+◌, ◌-◌, ◌^◌, ◌<◌, ◌≤◌, ◌==◌, nat_le, Bool, ◌&&◌, if◌then◌else◌, List, [], ◌∷◌, ◌++◌, length, slice_index_or, find, take, drop, All, Option, Some, None, Result, Ok, Err}
 use Rattle.srmt_base.specs.declared.trap.Trap.{Trap}
 use Rattle.srmt_base.specs.declared.trap.Trap.TheVariants.{NullPointer, OutsideObject, DeadObject, ReadOnly}
 use Rattle.srmt_base.specs.Objects.{Object, object_part, offset_part}
@@ -44,3 +44,12 @@ pub record IsFlat (budget fresh : ℕ) (rows : List Row) (cells : List ℕ) (row
   pub bounded : budget ≤ 1048576
   pub row_room : budget ≤ row_capacity
   pub cell_room : budget ≤ cell_capacity
+
+-- a line whose cells moved down
+abbrev pub moved_down : ℕ → Row → Row
+moved_down by row =
+    record { number = row.number; start = row.start - by; cells = row.cells; read_only = row.read_only }
+
+-- the row without a part of it
+abbrev pub without : List ℕ → ℕ → ℕ → List ℕ
+without cells start count = take start cells ++ drop (start + count) cells

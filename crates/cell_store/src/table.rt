@@ -1,6 +1,6 @@
-ghost use Rattle.std.specs.Prelude.{◌≡◌, ℕ, ◌+◌, ◌-◌, ◌*◌, ◌^◌, ◌<◌, ◌≤◌, None, MatchOption, length};
+ghost use Rattle.std.specs.Prelude.{◌≡◌, ℕ, ◌+◌, ◌-◌, ◌*◌, ◌^◌, ◌<◌, ◌≤◌, None, MatchOption, All, map, length, vec_len, vec_capacity};
 ghost use Rattle.std.specs.Ordering.{MatchOrdering};
-ghost use Rattle.cell_store.specs.Flat.{row_of, reach_of, AreLaid, IsPlaceOf};
+ghost use Rattle.cell_store.specs.Flat.{row_of, reach_of, AreLaid, IsPlaceOf, moved_down, without};
 
 use crate::Steps;
 use srmt_base::Trap;
@@ -95,4 +95,25 @@ pub(crate) fn reach(rows: &[Row], pointer: u64, writes: bool) -> Result<usize, T
         return Err(Trap::ReadOnly);
     }
     Ok(row.start as usize + offset as usize)
+}
+
+/// Moves the cells of each line down.
+pub(crate) fn move_down(rows: &mut [Row], by: u32)
+    requires { All (λ row. by ≤ row.start) rows.old }
+    ensures { rows.new ≡ map (moved_down by) rows.old }
+{
+    for row in rows {
+        row.start -= by;
+    }
+}
+
+/// Takes a part of the cells out, and moves those behind it down.
+pub(crate) fn close_up(cells: &mut Vec<u64>, start: usize, count: usize)
+    requires { start + count ≤ vec_len cells.old }
+    ensures items { cells.new.items ≡ without cells.old.items start count }
+    ensures capacity { vec_capacity cells.new ≡ vec_capacity cells.old }
+{
+    let len = cells.len();
+    cells.copy_within(start + count..len, start);
+    cells.truncate(len - count);
 }

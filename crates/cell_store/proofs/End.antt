@@ -1,0 +1,119 @@
+-- The end of an object.
+use Rattle.std.proofs.Common.{ℕ, ◌+◌, ◌-◌, ◌^◌, ◌<◌, ◌≤◌, ◌≡◌, ◌≢◌, zero, suc, Bool, true, false, not, List, [], ◌∷◌, ◌++◌, length, map, take, drop, get_or, set, Option, Some, None, cond, eqb, refl, ap, sym, subst, ◌∙◌, arith}
+use Rattle.std.specs.Prelude.{filter, find, option_map, is_some, ◌==◌, All}
+use Rattle.std.proofs.lemmas.List.{length-take, length-take-le, length-drop, length-append, drop-append-le, take-append-le, drop-drop, drop-take, take-take, length-map, drop_more, get_or_at, set_at, append_assoc, map_more}
+use Rattle.std.proofs.lemmas.List.Elements.{All-append, All-take, All-drop}
+use Rattle.std.proofs.lemmas.Bool.{ne_eqb, eq-eqb, cases_lt}
+use Rattle.std.proofs.lemmas.Bool.Decides.{eqb_tells}
+use Rattle.srmt_base.specs.Objects.{Object, Objects, is_live, end_of}
+use Rattle.cell_store.specs.declared.table.Row.{Row}
+use Rattle.cell_store.specs.Flat.{object_in, AreLaid, IsFlat, row_of, moved_down, without}
+use Rattle.cell_store.proofs.Rows.{row_of_at}
+use Rattle.cell_store.proofs.Access.{flat, find-map, found, laid_upwards, LiesIn}
+
+-- a turn of a loop that changes each line in place
+pub mapped_more : (f : Row → Row) (rows : List Row) (i : ℕ) (d : Row) → i < length rows → set (map f (take i rows) ++ drop i rows) i (f (get_or (map f (take i rows) ++ drop i rows) i d)) ≡ map f (take (i + 1) rows) ++ drop (i + 1) rows
+mapped_more f rows i d within =
+    let front : length (map f (take i rows)) ≡ i = rw length-map (length-take-le i rows (omega arith)) in
+    let next = drop_more rows i d within in
+    let item : get_or (map f (take i rows) ++ get_or rows i d ∷ drop (i + 1) rows) i d ≡ get_or rows i d = get_or_at (map f (take i rows)) (get_or rows i d) (drop (i + 1) rows) d i front in
+    rw (next, item)
+      (set_at (map f (take i rows)) (get_or rows i d) (drop (i + 1) rows) (f (get_or rows i d)) i front
+      ∙ (sym (append_assoc (map f (take i rows)) (f (get_or rows i d) ∷ []) (drop (i + 1) rows))
+      ∙ ap (λ (front : List Row). front ++ drop (i + 1) rows) (sym (map_more f rows i d within))))
+
+-- where a line lies
+lies_at : (rows : List Row) (start least end fresh : ℕ) → AreLaid start least rows end fresh → (d : Row) (k : ℕ) → k < length rows → LiesIn (get_or rows k d) start least end (get_or rows k d).number
+lies_at rows start least end fresh laid d k within =
+    found rows start least end fresh _ (get_or rows k d) laid (row_of_at rows start least end fresh laid d k _ within refl)
+
+-- lines from a lower number on
+from_lower : (rows : List Row) (start least lower end fresh : ℕ) → AreLaid start least rows end fresh → lower ≤ least → AreLaid start lower rows end fresh
+from_lower [] start least lower end fresh laid h = (laid.0, omega (arith, laid.1))
+from_lower (row ∷ rows) start least lower end fresh laid h = (laid.0, omega (arith, laid.1), laid.2, laid.3)
+
+-- lines whose cells moved down
+laid_moved : (rows : List Row) (start count least end fresh : ℕ) → AreLaid (start + count) least rows end fresh → AreLaid start least (map (moved_down count) rows) (end - count) fresh
+laid_moved [] start count least end fresh laid = (omega (arith, laid.0), laid.1)
+laid_moved (row ∷ rows) start count least end fresh laid =
+    let e : start + count + row.cells ≡ start + row.cells + count = omega arith in
+    (omega (arith, laid.0), laid.1, laid.2, laid_moved rows (start + row.cells) count _ end fresh (subst (λ (s : ℕ). AreLaid s (row.number + 1) rows end fresh) e laid.3))
+
+-- the table without a line
+pub laid_without : (rows : List Row) (start least end fresh : ℕ) (d : Row) (at : ℕ) → AreLaid start least rows end fresh → at < length rows → AreLaid start least (take at rows ++ map (moved_down (get_or rows at d).cells) (drop (suc at) rows)) (end - (get_or rows at d).cells) fresh
+laid_without [] start least end fresh d at laid within = absurd (omega arith)
+laid_without (row ∷ rows) start least end fresh d zero laid within =
+    laid_moved rows start row.cells least end fresh (from_lower rows (start + row.cells) (row.number + 1) least end fresh laid.3 (omega (arith, laid.1)))
+laid_without (row ∷ rows) start least end fresh d (suc at) laid within =
+    (laid.0, laid.1, laid.2, laid_without rows _ _ end fresh d at laid.3 (omega arith))
+
+-- a part of the row before what is taken out
+part-front : (cells : List ℕ) (start count from long : ℕ) → from + long ≤ start → start ≤ length cells → take long (drop from (without cells start count)) ≡ take long (drop from cells)
+part-front cells start count from long before fits =
+    let len : length (take start cells) ≡ start = length-take-le start cells fits in
+    let e : start ≡ from + (start - from) = omega arith in
+    let inner : drop from (take start cells) ≡ take (start - from) (drop from cells) =
+      ap (λ (s : ℕ). drop from (take s cells)) e ∙ drop-take from (start - from) cells in
+    ap (take long) (drop-append-le from (take start cells) (drop (start + count) cells) (omega arith))
+    ∙ take-append-le long (drop from (take start cells)) (drop (start + count) cells) (rw length-drop (omega arith))
+    ∙ ap (take long) inner ∙ take-take long (start - from) (drop from cells) (omega arith)
+
+-- and behind it
+drop-behind : (front back : List ℕ) (n : ℕ) → length front ≤ n → drop n (front ++ back) ≡ drop (n - length front) back
+drop-behind [] back n h = let e : n - 0 ≡ n = omega arith in ap (λ (k : ℕ). drop k back) (sym e)
+drop-behind (x ∷ front) back zero h = absurd (omega arith)
+drop-behind (x ∷ front) back (suc n) h =
+    let e : suc n - length (x ∷ front) ≡ n - length front = omega arith in
+    rw e (drop-behind front back n (omega arith))
+
+part-back : (cells : List ℕ) (start count from long : ℕ) → start + count ≤ from → start ≤ length cells → take long (drop (from - count) (without cells start count)) ≡ take long (drop from cells)
+part-back cells start count from long behind fits =
+    let len : length (take start cells) ≡ start = length-take-le start cells fits in
+    let e : start + count + (from - count - length (take start cells)) ≡ from = omega arith in
+    ap (take long) (drop-behind (take start cells) (drop (start + count) cells) (from - count) (omega arith)
+      ∙ drop-drop (from - count - length (take start cells)) (start + count) cells ∙ ap (λ (n : ℕ). drop n cells) e)
+
+-- the objects behind the one that ends
+moved-objects : (rows : List Row) (from least end fresh : ℕ) (cells : List ℕ) (start count : ℕ) → AreLaid from least rows end fresh → start + count ≤ from → start ≤ length cells → map (object_in (without cells start count)) (map (moved_down count) rows) ≡ map (object_in cells) rows
+moved-objects [] from least end fresh cells start count laid behind fits = refl
+moved-objects (row ∷ rows) from least end fresh cells start count laid behind fits =
+    let part : take row.cells (drop (row.start - count) (without cells start count)) ≡ take row.cells (drop row.start cells) =
+      part-back cells start count row.start row.cells (omega (arith, laid.0)) fits in
+    let rest : map (object_in (without cells start count)) (map (moved_down count) rows) ≡ map (object_in cells) rows =
+      moved-objects rows _ _ end fresh cells start count laid.3 (omega arith) fits in
+    rw (part, rest) refl
+
+-- no object of greater number is the one that ends
+others-kept : (rows : List Row) (start least end fresh : ℕ) (cells : List ℕ) (number : ℕ) → AreLaid start least rows end fresh → number < least → filter (λ (object : Object). not (object.number == number)) (map (object_in cells) rows) ≡ map (object_in cells) rows
+others-kept [] start least end fresh cells number laid less = refl
+others-kept (row ∷ rows) start least end fresh cells number laid less =
+    let other : eqb row.number number ≡ false = ne_eqb row.number number (λ e. absurd (omega (arith, laid.1))) in
+    let rest : filter (λ (object : Object). not (object.number == number)) (map (object_in cells) rows) ≡ map (object_in cells) rows = others-kept rows _ _ end fresh cells number laid.3 (omega (arith, laid.1)) in
+    rw (other, rest) refl
+
+-- the objects without the one that ends
+pub objects-without : (rows : List Row) (start least end fresh : ℕ) (cells : List ℕ) (d : Row) (at : ℕ) → AreLaid start least rows end fresh → end ≤ length cells → at < length rows → map (object_in (without cells (get_or rows at d).start (get_or rows at d).cells)) (take at rows ++ map (moved_down (get_or rows at d).cells) (drop (suc at) rows)) ≡ filter (λ (object : Object). not (object.number == (get_or rows at d).number)) (map (object_in cells) rows)
+objects-without [] start least end fresh cells d at laid fits within = absurd (omega arith)
+objects-without (row ∷ rows) start least end fresh cells d zero laid fits within =
+    let this : eqb row.number row.number ≡ true = eq-eqb row.number row.number refl in
+    let up = laid_upwards rows _ _ end fresh laid.3 in
+    let back : map (object_in (without cells row.start row.cells)) (map (moved_down row.cells) rows) ≡ map (object_in cells) rows =
+      moved-objects rows _ _ end fresh cells row.start row.cells laid.3 (omega (arith, laid.0)) (omega (arith, laid.0)) in
+    let rest : filter (λ (object : Object). not (object.number == row.number)) (map (object_in cells) rows) ≡ map (object_in cells) rows = others-kept rows _ _ end fresh cells row.number laid.3 (omega arith) in
+    rw (this, back, rest) refl
+objects-without (row ∷ rows) start least end fresh cells d (suc at) laid fits within =
+    let lies = lies_at rows _ _ end fresh laid.3 d at (omega arith) in
+    let other : eqb row.number (get_or rows at d).number ≡ false = ne_eqb row.number (get_or rows at d).number (λ e. absurd (omega (arith, lies.above))) in
+    let front : take row.cells (drop row.start (without cells (get_or rows at d).start (get_or rows at d).cells)) ≡ take row.cells (drop row.start cells) =
+      part-front cells (get_or rows at d).start (get_or rows at d).cells row.start row.cells (omega (arith, laid.0, lies.from)) (omega (arith, lies.until)) in
+    let rest = objects-without rows _ _ end fresh cells d at laid.3 fits (omega arith) in
+    rw (other, front, rest) refl
+
+-- where no line has the number all objects stay
+pub none-filtered : (rows : List Row) (cells : List ℕ) (number : ℕ) → row_of rows number ≡ None → filter (λ (object : Object). not (object.number == number)) (map (object_in cells) rows) ≡ map (object_in cells) rows
+none-filtered [] cells number none = refl
+none-filtered (row ∷ rows) cells number none = by_test (row.number == number) none (none-filtered rows cells number)
+  where
+    by_test : (b : Bool) → cond b (Some row) (row_of rows number) ≡ None → (row_of rows number ≡ None → filter (λ (object : Object). not (object.number == number)) (map (object_in cells) rows) ≡ map (object_in cells) rows) → cond (not b) (object_in cells row ∷ filter (λ (object : Object). not (object.number == number)) (map (object_in cells) rows)) (filter (λ (object : Object). not (object.number == number)) (map (object_in cells) rows)) ≡ object_in cells row ∷ map (object_in cells) rows
+    by_test true e h = cc
+    by_test false e h = ap (λ (rest : List Object). object_in cells row ∷ rest) (h e)
