@@ -1,10 +1,12 @@
-ghost use Rattle.std.specs.Prelude.{◌≡◌, ℕ, ◌^◌, ◌<◌, ◌≤◌, IfOk, IfErr, OnOk, OnErr};
-ghost use Rattle.srmt_base.specs.Objects.{start_of, add_of, load_of, put_of, set_up_of};
+ghost use Rattle.std.specs.Prelude.{◌≡◌, ℕ, ◌+◌, ◌-◌, ◌*◌, ◌^◌, ◌<◌, ◌≤◌, None, length, slice_get, IsFalse, MatchOption, IfOk, IfErr, OnOk, OnErr};
+ghost use Rattle.srmt_base.specs.Objects.{start_of, live_at, is_live, add_of, load_of, put_of, set_up_of, end_of};
 
-use crate::table::{Row, reach};
+use crate::Steps;
+use crate::table::{Row, close_up, newest_or_place, place, reach, take_out};
 use srmt_base::Trap;
 use std::alloc::{AllocError, Global};
 use std::marker::Model;
+use std::sync::ledger::Ledger;
 
 /// One part of a program's memory.
 #[derive(Debug, Drop)]
@@ -105,5 +107,30 @@ impl Store {
         let at = reach(&self.rows, pointer, false)?;
         self.cells[at] = value;
         Ok(())
+    }
+
+    /// Ends a live object, and answers whether there was one. What is behind it closes up.
+    pub fn end(&mut self, number: u32) -> bool
+        ensures live { result ≡ is_live self.old number }
+        ensures ended { self.new ≡ end_of self.old number }
+        ensures unchanged { IsFalse result → self.new ≡ self.old }
+    {
+        let Some(at) = newest_or_place(&self.rows, u64::from(number)) else {
+            return false;
+        };
+        let row = take_out(&mut self.rows, at);
+        close_up(&mut self.cells, row.start as usize, row.cells as usize);
+        true
+    }
+
+    /// The place of a live object among the live ones in order of number, from 0. A step is one
+    /// comparison of the number with that of a live object.
+    pub fn find<L: Ledger>(&self, number: u32, steps: &mut Steps<L>) -> Option<u32>
+        ensures found { MatchOption result (live_at self.now number ≡ None) (λ place. live_at self.now number ≡ slice_get self.now.live place) }
+        ensures counted { steps.old ≤ steps.new }
+        ensures cost { 2 ^ (steps.new - steps.old) ≤ 2 * length self.now.live + 1 }
+    {
+        let at = place(&self.rows, u64::from(number), steps)?;
+        Some(at as u32)
     }
 }

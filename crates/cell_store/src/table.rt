@@ -1,4 +1,4 @@
-ghost use Rattle.std.specs.Prelude.{◌≡◌, ℕ, ◌+◌, ◌-◌, ◌*◌, ◌^◌, ◌<◌, ◌≤◌, None, MatchOption, All, map, length, vec_len, vec_capacity};
+ghost use Rattle.std.specs.Prelude.{◌≡◌, ℕ, ◌+◌, ◌-◌, ◌*◌, ◌^◌, ◌<◌, ◌≤◌, None, MatchOption, All, ◌++◌, map, take, drop, slice_index_or, length, vec_len, vec_capacity};
 ghost use Rattle.std.specs.Ordering.{MatchOrdering};
 ghost use Rattle.cell_store.specs.Flat.{row_of, reach_of, AreLaid, IsPlaceOf, moved_down, without};
 
@@ -98,13 +98,26 @@ pub(crate) fn reach(rows: &[Row], pointer: u64, writes: bool) -> Result<usize, T
 }
 
 /// Moves the cells of each line down.
-pub(crate) fn move_down(rows: &mut [Row], by: u32)
+fn move_down(rows: &mut [Row], by: u32)
     requires { All (λ row. by ≤ row.start) rows.old }
     ensures { rows.new ≡ map (moved_down by) rows.old }
 {
     for row in rows {
         row.start -= by;
     }
+}
+
+/// Takes a line out of the table, and moves the cells of those behind it down over its own.
+pub(crate) fn take_out(rows: &mut Vec<Row>, at: usize) -> Row
+    requires laid { (end fresh : ℕ) × AreLaid 0 0 rows.old.items end fresh }
+    requires within { at < vec_len rows.old }
+    ensures row { result ≡ slice_index_or rows.old.items at result }
+    ensures items { rows.new.items ≡ take at rows.old.items ++ map (moved_down result.cells) (drop (at + 1) rows.old.items) }
+    ensures capacity { vec_capacity rows.new ≡ vec_capacity rows.old }
+{
+    let row = rows.remove(at);
+    move_down(&mut rows[at..], u32::from(row.cells));
+    row
 }
 
 /// Takes a part of the cells out, and moves those behind it down.
