@@ -1,6 +1,6 @@
 -- An access to the flat store is the access to the list of its objects.
 use Rattle.std.proofs.Common.{ℕ, ◌+◌, ◌-◌, ◌<◌, ◌≤◌, ◌≡◌, ◌≢◌, zero, suc, Bool, true, false, ◌&&◌, List, [], ◌∷◌, length, map, get_or, set, take, drop, Option, Some, None, Result, Ok, Err, cond, eqb, leb, min, refl, ap, sym, subst, ◌∙◌, ⊎_elim, arith}
-use Rattle.std.specs.Prelude.{slice_index, slice_set, nat_le, option_map, find, if◌then◌else◌, ◌==◌, IfSome, IfOk}
+use Rattle.std.specs.Prelude.{slice_index, slice_set, nat_le, option_map, find, slice_get, if◌then◌else◌, ◌==◌, IfSome, IfOk}
 use Rattle.srmt_base.specs.declared.trap.Trap.TheVariants.{NullPointer, OutsideObject, DeadObject, ReadOnly}
 use Rattle.std.proofs.lemmas.List.{length-take, length-drop, get_or-take, get_or-drop, drop-set-add, drop-set-lt, take-set-le, length-set}
 use Rattle.std.proofs.Math.Seq.{take-set-lt}
@@ -165,3 +165,13 @@ put_reached writes budget fresh rows cells pointer value r laid e =
 pub place-within : (writes : Bool) (rows : List Row) (end fresh pointer place : ℕ) → AreLaid 0 0 rows end fresh → reach_of writes rows pointer ≡ Ok place → place < end
 place-within writes rows end fresh pointer place laid e =
     subst (λ (r : Result ℕ Trap). IfOk r (λ p. p < end)) e (reach-within writes rows end fresh pointer laid)
+
+-- the object at the place of a line
+slice_get-map : (cells : List ℕ) (rows : List Row) (place : ℕ) (d : Row) → place < length rows → slice_get (map (object_in cells) rows) place ≡ Some (object_in cells (get_or rows place d))
+slice_get-map cells [] place d within = absurd (omega arith)
+slice_get-map cells (row ∷ rows) zero d within = refl
+slice_get-map cells (row ∷ rows) (suc place) d within = slice_get-map cells rows place d (omega arith)
+
+pub live_at-place : (budget fresh : ℕ) (rows : List Row) (cells : List ℕ) (number place : ℕ) (d : Row) → place < length rows → row_of rows number ≡ Some (get_or rows place d) → live_at (flat budget fresh rows cells) number ≡ slice_get (map (object_in cells) rows) place
+live_at-place budget fresh rows cells number place d within e =
+    find-map cells rows number ∙ ap (option_map (object_in cells)) e ∙ sym (slice_get-map cells rows place d within)

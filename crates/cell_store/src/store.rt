@@ -1,4 +1,4 @@
-ghost use Rattle.std.specs.Prelude.{◌≡◌, ℕ, ◌+◌, ◌-◌, ◌*◌, ◌^◌, ◌<◌, ◌≤◌, None, length, slice_get, IsFalse, MatchOption, IfOk, IfErr, OnOk, OnErr};
+ghost use Rattle.std.specs.Prelude.{◌≡◌, ℕ, ◌+◌, ◌-◌, ◌*◌, ◌^◌, ◌<◌, ◌≤◌, is_some, length, slice_get, IsFalse, IfSome, IfOk, IfErr, OnOk, OnErr};
 ghost use Rattle.srmt_base.specs.Objects.{start_of, live_at, is_live, add_of, load_of, put_of, set_up_of, end_of};
 
 use crate::Steps;
@@ -126,7 +126,8 @@ impl Store {
     /// The place of a live object among the live ones in order of number, from 0. A step is one
     /// comparison of the number with that of a live object.
     pub fn find<L: Ledger>(&self, number: u32, steps: &mut Steps<L>) -> Option<u32>
-        ensures found { MatchOption result (live_at self.now number ≡ None) (λ place. live_at self.now number ≡ slice_get self.now.live place) }
+        ensures live { is_some result ≡ is_live self.now number }
+        ensures found { IfSome result (λ place. slice_get self.now.live place ≡ live_at self.now number) }
         ensures counted { steps.old ≤ steps.new }
         ensures cost { 2 ^ (steps.new - steps.old) ≤ 2 * length self.now.live + 1 }
     {
