@@ -1,13 +1,13 @@
 -- An access to the flat store is the access to the list of its objects.
-use Rattle.std.proofs.Common.{ℕ, ◌+◌, ◌-◌, ◌<◌, ◌≤◌, ◌≡◌, ◌≢◌, zero, suc, Bool, true, false, ◌&&◌, List, [], ◌∷◌, length, map, get_or, set, take, drop, Option, Some, None, Result, Ok, Err, cond, eqb, leb, min, refl, ap, sym, subst, ◌∙◌, ⊎_elim, arith}
-use Rattle.std.specs.Prelude.{slice_index, slice_set, nat_le, option_map, find, slice_get, if◌then◌else◌, ◌==◌, IfSome, IfOk}
-use Rattle.srmt_base.specs.declared.trap.Trap.TheVariants.{NullPointer, OutsideObject, DeadObject, ReadOnly}
-use Rattle.std.proofs.lemmas.List.{length-take, length-drop, get_or-take, get_or-drop, drop-set-add, drop-set-lt, take-set-le, length-set}
+use Rattle.std.proofs.Common.{ℕ, ◌+◌, ◌-◌, ◌<◌, ◌≤◌, ◌≡◌, zero, suc, Bool, true, false, ◌&&◌, List, [], ◌∷◌, length, map, get_or, set, take, drop, Option, Some, None, Result, Ok, Err, cond, eqb, leb, refl, ap, sym, subst, ◌∙◌, ⊎_elim, arith}
+use Rattle.std.specs.Prelude.{slice_index, option_map, find, slice_get, ◌==◌, IfOk}
+use Rattle.srmt_base.specs.declared.trap.Trap.TheVariants.{NullPointer, OutsideObject, ReadOnly}
+use Rattle.std.proofs.lemmas.List.{length-take, length-drop, get_or-take, get_or-drop, drop-set-add, drop-set-lt, take-set-le}
 use Rattle.std.proofs.Math.Seq.{take-set-lt}
 use Rattle.std.proofs.lemmas.Bool.{ne_eqb, eqb-true, leb-false}
-use Rattle.std.proofs.lemmas.Bool.Decides.{eqb_tells, leb_tells}
+use Rattle.std.proofs.lemmas.Bool.Decides.{eqb_tells}
 use Rattle.srmt_base.specs.declared.trap.Trap.{Trap}
-use Rattle.srmt_base.specs.Objects.{Object, Objects, object_part, offset_part, live_at, access_in, access_of, if_passed, written_in, written, load_of, put_of, set_up_of}
+use Rattle.srmt_base.specs.Objects.{Object, Objects, object_part, offset_part, live_at, access_in, access_of, if_passed, written_in, written, load_of}
 use Rattle.cell_store.specs.declared.table.Row.{Row}
 use Rattle.cell_store.specs.Flat.{object_in, AreLaid, row_of, reach_in, reach_of}
 
@@ -45,12 +45,12 @@ pub found : (rows : List Row) (start least end fresh number : ℕ) (row : Row) �
 found [] start least end fresh number row laid e = cc
 found (first ∷ rows) start least end fresh number row laid e =
     ⊎_elim
-      (λ h. let e' : Some first ≡ Some row = rw h.0 at e in let same : first ≡ row = cc in
-        subst (λ (x : Row). LiesIn x start least end number) same
-          record { from = omega (arith, laid.0); until = omega (arith, laid.0, laid_upwards rows _ _ end fresh laid.3); above = omega (arith, laid.1, h.1); is = h.1 })
-      (λ h. let e' : row_of rows number ≡ Some row = rw h.0 at e in let lies = found rows _ _ end fresh number row laid.3 e' in
-        record { from = omega (arith, lies.from); until = lies.until; above = omega (arith, lies.above, laid.1); is = lies.is })
-      (eqb_tells first.number number)
+    (λ h. let e' : Some first ≡ Some row = rw h.0 at e in let same : first ≡ row = cc in
+    subst (λ (x : Row). LiesIn x start least end number) same
+    record { from = omega (arith, laid.0); until = omega (arith, laid.0, laid_upwards rows _ _ end fresh laid.3); above = omega (arith, laid.1, h.1); is = h.1 })
+    (λ h. let e' : row_of rows number ≡ Some row = rw h.0 at e in let lies = found rows _ _ end fresh number row laid.3 e' in
+    record { from = omega (arith, lies.from); until = lies.until; above = omega (arith, lies.above, laid.1); is = lies.is })
+    (eqb_tells first.number number)
 
 -- a cell of an object is a cell of the row
 slice_index-part : (cells : List ℕ) (start count offset : ℕ) → offset < count → slice_index (take count (drop start cells)) offset ≡ slice_index cells (start + offset)
@@ -68,7 +68,7 @@ same_in : {A : Type 0} (f : Object → A) (g : ℕ → A) (writes : Bool) (cells
 same_in f g writes cells row offset fits same =
     let len : length (take row.cells (drop row.start cells)) ≡ row.cells = rw (length-take, length-drop) (omega arith) in
     rw len (tests_same f g (object_in cells row) (row.start + offset) (leb row.cells offset) (writes && row.read_only)
-      (λ e. same (leb-false row.cells offset e)))
+    (λ e. same (leb-false row.cells offset e)))
 
 same_at : {A : Type 0} (f : Object → A) (g : ℕ → A) (writes : Bool) (cells : List ℕ) (o : Option Row) (offset : ℕ) → ((row : Row) → o ≡ Some row → (row.start + row.cells ≤ length cells) × (offset < row.cells → f (object_in cells row) ≡ g (row.start + offset))) → if_passed f (access_in writes (option_map (object_in cells) o) offset) ≡ if_reached g (reach_in writes o offset)
 same_at f g writes cells None offset h = refl
@@ -81,6 +81,7 @@ access_flat {A} f g writes budget fresh rows cells pointer laid same = by_null (
     by_null : (b : Bool) → if_passed f (access_in writes (live_at (flat budget fresh rows cells) (object_part pointer)) (offset_part pointer)) ≡ if_reached g (reach_in writes (row_of rows (object_part pointer)) (offset_part pointer)) → if_passed f (cond b (Err NullPointer) (access_in writes (live_at (flat budget fresh rows cells) (object_part pointer)) (offset_part pointer))) ≡ if_reached g (cond b (Err NullPointer) (reach_in writes (row_of rows (object_part pointer)) (offset_part pointer)))
     by_null true h = refl
     by_null false h = h
+
     there : if_passed f (access_in writes (live_at (flat budget fresh rows cells) (object_part pointer)) (offset_part pointer)) ≡ if_reached g (reach_in writes (row_of rows (object_part pointer)) (offset_part pointer))
     there = ap (λ (o : Option Object). if_passed f (access_in writes o (offset_part pointer))) (find-map cells rows (object_part pointer)) ∙ same_at f g writes cells (row_of rows (object_part pointer)) (offset_part pointer) (λ row e. ((found rows 0 0 (length cells) fresh _ row laid e).until, same row e))
 
@@ -95,7 +96,7 @@ part-before : (cells : List ℕ) (start count place value : ℕ) → start + cou
 part-before cells start count place value before =
     let e : place ≡ start + (place - start) = omega arith in
     let moved : drop start (set cells place value) ≡ set (drop start cells) (place - start) value =
-      ap (λ (k : ℕ). drop start (set cells k value)) e ∙ drop-set-add start cells (place - start) value in
+    ap (λ (k : ℕ). drop start (set cells k value)) e ∙ drop-set-add start cells (place - start) value in
     rw (moved, take-set-le count (drop start cells) (place - start) value (omega arith)) refl
 
 -- the objects behind the place that is written, and not of the number, stay
@@ -112,24 +113,25 @@ pub written-map : (rows : List Row) (start least end fresh : ℕ) (cells : List 
 written-map [] start least end fresh cells pointer value found_row laid e within = cc
 written-map (row ∷ rows) start least end fresh cells pointer value found_row laid e within =
     ⊎_elim
-      (λ h. let e' : Some row ≡ Some found_row = rw h.0 at e in let same : row ≡ found_row = cc in
-        here h.0 (rw (← same) at within) ∙ ap (λ (r : Row). map (object_in (set cells (r.start + offset_part pointer) value)) (row ∷ rows)) same)
-      (λ h. let e' : row_of rows (object_part pointer) ≡ Some found_row = rw h.0 at e in
-        there h.0 (found rows _ _ end fresh _ found_row laid.3 e') (written-map rows _ _ end fresh cells pointer value found_row laid.3 e' within))
-      (eqb_tells row.number (object_part pointer))
+    (λ h. let e' : Some row ≡ Some found_row = rw h.0 at e in let same : row ≡ found_row = cc in
+    here h.0 (rw (← same) at within) ∙ ap (λ (r : Row). map (object_in (set cells (r.start + offset_part pointer) value)) (row ∷ rows)) same)
+    (λ h. let e' : row_of rows (object_part pointer) ≡ Some found_row = rw h.0 at e in
+    there h.0 (found rows _ _ end fresh _ found_row laid.3 e') (written-map rows _ _ end fresh cells pointer value found_row laid.3 e' within))
+    (eqb_tells row.number (object_part pointer))
   where
     here : eqb row.number (object_part pointer) ≡ true → offset_part pointer < row.cells → map (written_in pointer value) (map (object_in cells) (row ∷ rows)) ≡ map (object_in (set cells (row.start + offset_part pointer) value)) (row ∷ rows)
     here number inside =
         let is : row.number ≡ object_part pointer = eqb-true row.number (object_part pointer) number in
         let part : take row.cells (drop row.start (set cells (row.start + offset_part pointer) value)) ≡ set (take row.cells (drop row.start cells)) (offset_part pointer) value =
-          ap (take row.cells) (drop-set-add row.start cells (offset_part pointer) value) ∙ take-set-lt row.cells (drop row.start cells) (offset_part pointer) value inside in
+        ap (take row.cells) (drop-set-add row.start cells (offset_part pointer) value) ∙ take-set-lt row.cells (drop row.start cells) (offset_part pointer) value inside in
         let rest : map (written_in pointer value) (map (object_in cells) rows) ≡ map (object_in (set cells (row.start + offset_part pointer) value)) rows =
-          behind rows _ _ end fresh cells pointer (row.start + offset_part pointer) value laid.3 (omega arith) (omega (arith, laid.0)) in
+        behind rows _ _ end fresh cells pointer (row.start + offset_part pointer) value laid.3 (omega arith) (omega (arith, laid.0)) in
         rw (number, part, rest) refl
+
     there : eqb row.number (object_part pointer) ≡ false → LiesIn found_row (start + row.cells) (row.number + 1) end (object_part pointer) → map (written_in pointer value) (map (object_in cells) rows) ≡ map (object_in (set cells (found_row.start + offset_part pointer) value)) rows → map (written_in pointer value) (map (object_in cells) (row ∷ rows)) ≡ map (object_in (set cells (found_row.start + offset_part pointer) value)) (row ∷ rows)
     there number lies rest =
         let part : take row.cells (drop row.start (set cells (found_row.start + offset_part pointer) value)) ≡ take row.cells (drop row.start cells) =
-          part-before cells row.start row.cells (found_row.start + offset_part pointer) value (omega (arith, lies.from, laid.0)) in
+        part-before cells row.start row.cells (found_row.start + offset_part pointer) value (omega (arith, lies.from, laid.0)) in
         rw (number, part, rest) refl
 
 -- writing
@@ -146,9 +148,11 @@ reach-within writes rows end fresh pointer laid = by_null (object_part pointer =
     by_tests true forbidden place h = tt
     by_tests false true place h = tt
     by_tests false false place h = h refl
+
     by_row : (o : Option Row) → ((row : Row) → o ≡ Some row → row.start + row.cells ≤ end) → IfOk (reach_in writes o (offset_part pointer)) (λ p. p < end)
     by_row None h = tt
     by_row (Some row) h = by_tests (leb row.cells (offset_part pointer)) (writes && row.read_only) _ (λ e. omega (arith, h row refl, leb-false row.cells (offset_part pointer) e))
+
     by_null : (b : Bool) → IfOk (cond b (Err NullPointer) (reach_in writes (row_of rows (object_part pointer)) (offset_part pointer))) (λ p. p < end)
     by_null true = tt
     by_null false = by_row (row_of rows (object_part pointer)) (λ row e. (found rows 0 0 end fresh _ row laid e).until)

@@ -1,14 +1,12 @@
 -- A new object behind all others.
-use Rattle.std.proofs.Common.{ℕ, ◌+◌, ◌-◌, ◌^◌, ◌<◌, ◌≤◌, ◌≡◌, Bool, true, false, ◌||◌, List, [], ◌∷◌, ◌++◌, length, map, take, drop, replicate, Result, Ok, Err, cond, ltb, leb, suc, refl, ap, sym, ◌∙◌, ◌⊎◌, ⊎_elim, inl, inr, arith}
-use Rattle.std.specs.Prelude.{sum_by, All, vec_len, vec_capacity, Vec}
+use Rattle.std.proofs.Common.{ℕ, ◌+◌, ◌-◌, ◌^◌, ◌<◌, ◌≤◌, ◌≡◌, Bool, true, false, ◌||◌, List, [], ◌∷◌, ◌++◌, length, map, take, drop, replicate, Ok, Err, cond, ltb, refl, ap, sym, ◌∙◌, ◌⊎◌, ⊎_elim, arith}
+use Rattle.std.specs.Prelude.{sum_by}
 use Rattle.std.proofs.lemmas.List.{length-take, length-drop, length-append, length-replicate, drop-append-le, take-append-le, drop_at, take_all, map_push}
 use Rattle.std.proofs.lemmas.List.Elements.{All-append, All-replicate}
 use Rattle.std.proofs.lemmas.List.Sums.{sum_by-cons}
 use Rattle.std.proofs.lemmas.Bool.{lt-ltb, le-ltb}
-use Rattle.std.proofs.lemmas.Bool.Decides.{leb_tells}
-use Rattle.srmt_base.specs.declared.trap.Trap.{Trap}
 use Rattle.srmt_base.specs.declared.trap.Trap.TheVariants.{Store}
-use Rattle.srmt_base.specs.Objects.{Object, Objects, live_cells, add_of, begun}
+use Rattle.srmt_base.specs.Objects.{Object, live_cells, add_of, begun}
 use Rattle.cell_store.specs.declared.table.Row.{Row}
 use Rattle.cell_store.specs.Flat.{object_in, AreLaid, IsFlat}
 use Rattle.cell_store.proofs.Access.{flat, laid_upwards}
@@ -43,8 +41,8 @@ kept [] start least end fresh cells more laid fits = refl
 kept (row ∷ rows) start least end fresh cells more laid fits =
     let up = laid_upwards rows _ _ end fresh laid.3 in
     let part : take row.cells (drop row.start (cells ++ more)) ≡ take row.cells (drop row.start cells) =
-      ap (take row.cells) (drop-append-le row.start cells more (omega (arith, laid.0)))
-      ∙ take-append-le row.cells (drop row.start cells) more (rw length-drop (omega (arith, laid.0))) in
+    ap (take row.cells) (drop-append-le row.start cells more (omega (arith, laid.0)))
+    ∙ take-append-le row.cells (drop row.start cells) more (rw length-drop (omega (arith, laid.0))) in
     let rest : map (object_in (cells ++ more)) rows ≡ map (object_in cells) rows = kept rows _ _ end fresh cells more laid.3 fits in
     rw (part, rest) refl
 
@@ -56,9 +54,9 @@ pub begun-flat : (budget fresh : ℕ) (rows : List Row) (cells : List ℕ) (numb
 begun-flat budget fresh rows cells number count read_only laid =
     let row = new_row number (length cells) count read_only in
     let zeros : take count (drop (length cells) (cells ++ replicate count 0)) ≡ replicate count 0 =
-      ap (take count) (drop_at cells (replicate count 0) (length cells) refl) ∙ take_all count (replicate count 0) (rw length-replicate (omega arith)) in
+    ap (take count) (drop_at cells (replicate count 0) (length cells) refl) ∙ take_all count (replicate count 0) (rw length-replicate (omega arith)) in
     let all : map (object_in (cells ++ replicate count 0)) (rows ++ row ∷ []) ≡ map (object_in cells) rows ++ record { number = number; cells = replicate count 0; read_only = read_only } ∷ [] =
-      map_push (object_in (cells ++ replicate count 0)) rows row ∙ rw (zeros, kept rows 0 0 (length cells) fresh cells (replicate count 0) laid (omega arith)) refl in
+    map_push (object_in (cells ++ replicate count 0)) rows row ∙ rw (zeros, kept rows 0 0 (length cells) fresh cells (replicate count 0) laid (omega arith)) refl in
     ap (λ (live : List Object). record { budget = budget; fresh = number + 1; live = live }) (sym all)
 
 pub add-ok : (budget fresh : ℕ) (rows : List Row) (cells : List ℕ) (number count : ℕ) (read_only : Bool) → AreLaid 0 0 rows (length cells) fresh → fresh ≤ number → length cells + count ≤ budget → add_of (flat budget fresh rows cells) number count read_only ≡ Ok (flat budget (number + 1) (rows ++ new_row number (length cells) count read_only ∷ []) (cells ++ replicate count 0))
@@ -72,9 +70,9 @@ pub add-err : (budget fresh : ℕ) (rows : List Row) (cells : List ℕ) (number 
 add-err budget fresh rows cells number count read_only laid h =
     let all = live_cells-flat budget fresh rows cells laid in
     ⊎_elim
-      (λ low. let a : ltb number fresh ≡ true = lt-ltb number fresh low in rw a refl)
-      (λ full. let b : ltb budget (live_cells (flat budget fresh rows cells) + count) ≡ true = lt-ltb budget _ (omega arith) in rw b (either (ltb number fresh)))
-      h
+    (λ low. let a : ltb number fresh ≡ true = lt-ltb number fresh low in rw a refl)
+    (λ full. let b : ltb budget (live_cells (flat budget fresh rows cells) + count) ≡ true = lt-ltb budget _ (omega arith) in rw b (either (ltb number fresh)))
+    h
   where
     either : (b : Bool) → cond (b || true) (Err Store) (Ok (begun (flat budget fresh rows cells) number count read_only)) ≡ Err Store
     either true = refl

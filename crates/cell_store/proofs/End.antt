@@ -1,13 +1,12 @@
 -- The end of an object.
-use Rattle.std.proofs.Common.{ℕ, ◌+◌, ◌-◌, ◌^◌, ◌<◌, ◌≤◌, ◌≡◌, ◌≢◌, zero, suc, Bool, true, false, not, List, [], ◌∷◌, ◌++◌, length, map, take, drop, get_or, set, Option, Some, None, cond, eqb, refl, ap, sym, subst, ◌∙◌, add-one, arith}
-use Rattle.std.specs.Prelude.{filter, find, option_map, is_some, ◌==◌, All}
+use Rattle.std.proofs.Common.{ℕ, ◌+◌, ◌-◌, ◌^◌, ◌<◌, ◌≤◌, ◌≡◌, zero, suc, Bool, true, false, not, List, [], ◌∷◌, ◌++◌, length, map, take, drop, get_or, set, Option, Some, None, cond, eqb, refl, ap, sym, subst, ◌∙◌, add-one, arith}
+use Rattle.std.specs.Prelude.{filter, option_map, is_some, ◌==◌, All}
 use Rattle.std.proofs.lemmas.List.{length-take, length-take-le, length-drop, length-append, drop-append-le, take-append-le, drop-drop, drop-take, take-take, take_at, take_rest, drop_at, get_or-drop, length-map, drop_more, get_or_at, set_at, append_assoc, map_more}
 use Rattle.std.proofs.lemmas.Slice.{take-put_mid}
 use borrow.Rule.Slice.PartMut.{post_of}
 use Rattle.std.proofs.lemmas.List.Elements.{All-append, All-take, All-drop}
-use Rattle.std.proofs.lemmas.Bool.{ne_eqb, eq-eqb, cases_lt}
-use Rattle.std.proofs.lemmas.Bool.Decides.{eqb_tells}
-use Rattle.srmt_base.specs.Objects.{Object, Objects, is_live, end_of}
+use Rattle.std.proofs.lemmas.Bool.{ne_eqb, eq-eqb}
+use Rattle.srmt_base.specs.Objects.{Object, is_live, end_of}
 use Rattle.cell_store.specs.declared.table.Row.{Row}
 use Rattle.cell_store.specs.Flat.{object_in, AreLaid, IsFlat, row_of, moved_down, without}
 use Rattle.cell_store.proofs.Rows.{row_of_at}
@@ -20,9 +19,9 @@ mapped_more f rows i d within =
     let next = drop_more rows i d within in
     let item : get_or (map f (take i rows) ++ get_or rows i d ∷ drop (i + 1) rows) i d ≡ get_or rows i d = get_or_at (map f (take i rows)) (get_or rows i d) (drop (i + 1) rows) d i front in
     rw (next, item)
-      (set_at (map f (take i rows)) (get_or rows i d) (drop (i + 1) rows) (f (get_or rows i d)) i front
-      ∙ (sym (append_assoc (map f (take i rows)) (f (get_or rows i d) ∷ []) (drop (i + 1) rows))
-      ∙ ap (λ (front : List Row). front ++ drop (i + 1) rows) (sym (map_more f rows i d within))))
+    (set_at (map f (take i rows)) (get_or rows i d) (drop (i + 1) rows) (f (get_or rows i d)) i front
+    ∙ (sym (append_assoc (map f (take i rows)) (f (get_or rows i d) ∷ []) (drop (i + 1) rows))
+    ∙ ap (λ (front : List Row). front ++ drop (i + 1) rows) (sym (map_more f rows i d within))))
 
 -- where a line lies
 lies_at : (rows : List Row) (start least end fresh : ℕ) → AreLaid start least rows end fresh → (d : Row) (k : ℕ) → k < length rows → LiesIn (get_or rows k d) start least end (get_or rows k d).number
@@ -55,7 +54,7 @@ part-front cells start count from long before fits =
     let len : length (take start cells) ≡ start = length-take-le start cells fits in
     let e : start ≡ from + (start - from) = omega arith in
     let inner : drop from (take start cells) ≡ take (start - from) (drop from cells) =
-      ap (λ (s : ℕ). drop from (take s cells)) e ∙ drop-take from (start - from) cells in
+    ap (λ (s : ℕ). drop from (take s cells)) e ∙ drop-take from (start - from) cells in
     ap (take long) (drop-append-le from (take start cells) (drop (start + count) cells) (omega arith))
     ∙ take-append-le long (drop from (take start cells)) (drop (start + count) cells) (rw length-drop (omega arith))
     ∙ ap (take long) inner ∙ take-take long (start - from) (drop from cells) (omega arith)
@@ -73,16 +72,16 @@ part-back cells start count from long behind fits =
     let len : length (take start cells) ≡ start = length-take-le start cells fits in
     let e : start + count + (from - count - length (take start cells)) ≡ from = omega arith in
     ap (take long) (drop-behind (take start cells) (drop (start + count) cells) (from - count) (omega arith)
-      ∙ drop-drop (from - count - length (take start cells)) (start + count) cells ∙ ap (λ (n : ℕ). drop n cells) e)
+    ∙ drop-drop (from - count - length (take start cells)) (start + count) cells ∙ ap (λ (n : ℕ). drop n cells) e)
 
 -- the objects behind the one that ends
 moved-objects : (rows : List Row) (from least end fresh : ℕ) (cells : List ℕ) (start count : ℕ) → AreLaid from least rows end fresh → start + count ≤ from → start ≤ length cells → map (object_in (without cells start count)) (map (moved_down count) rows) ≡ map (object_in cells) rows
 moved-objects [] from least end fresh cells start count laid behind fits = refl
 moved-objects (row ∷ rows) from least end fresh cells start count laid behind fits =
     let part : take row.cells (drop (row.start - count) (without cells start count)) ≡ take row.cells (drop row.start cells) =
-      part-back cells start count row.start row.cells (omega (arith, laid.0)) fits in
+    part-back cells start count row.start row.cells (omega (arith, laid.0)) fits in
     let rest : map (object_in (without cells start count)) (map (moved_down count) rows) ≡ map (object_in cells) rows =
-      moved-objects rows _ _ end fresh cells start count laid.3 (omega arith) fits in
+    moved-objects rows _ _ end fresh cells start count laid.3 (omega arith) fits in
     rw (part, rest) refl
 
 -- no object of greater number is the one that ends
@@ -100,14 +99,14 @@ objects-without (row ∷ rows) start least end fresh cells d zero laid fits with
     let this : eqb row.number row.number ≡ true = eq-eqb row.number row.number refl in
     let up = laid_upwards rows _ _ end fresh laid.3 in
     let back : map (object_in (without cells row.start row.cells)) (map (moved_down row.cells) rows) ≡ map (object_in cells) rows =
-      moved-objects rows _ _ end fresh cells row.start row.cells laid.3 (omega (arith, laid.0)) (omega (arith, laid.0)) in
+    moved-objects rows _ _ end fresh cells row.start row.cells laid.3 (omega (arith, laid.0)) (omega (arith, laid.0)) in
     let rest : filter (λ (object : Object). not (object.number == row.number)) (map (object_in cells) rows) ≡ map (object_in cells) rows = others-kept rows _ _ end fresh cells row.number laid.3 (omega arith) in
     rw (this, back, rest) refl
 objects-without (row ∷ rows) start least end fresh cells d (suc at) laid fits within =
     let lies = lies_at rows _ _ end fresh laid.3 d at (omega arith) in
     let other : eqb row.number (get_or rows at d).number ≡ false = ne_eqb row.number (get_or rows at d).number (λ e. absurd (omega (arith, lies.above))) in
     let front : take row.cells (drop row.start (without cells (get_or rows at d).start (get_or rows at d).cells)) ≡ take row.cells (drop row.start cells) =
-      part-front cells (get_or rows at d).start (get_or rows at d).cells row.start row.cells (omega (arith, laid.0, lies.from)) (omega (arith, lies.until)) in
+    part-front cells (get_or rows at d).start (get_or rows at d).cells row.start row.cells (omega (arith, laid.0, lies.from)) (omega (arith, lies.until)) in
     let rest = objects-without rows _ _ end fresh cells d at laid.3 fits (omega arith) in
     rw (other, front, rest) refl
 
@@ -146,12 +145,12 @@ flat_without budget fresh rows cells row_capacity cell_capacity d at flat within
     let row = get_or rows at d in
     let lies = lies_at rows 0 0 (length cells) fresh flat.laid d at within in
     let len : length (without cells row.start row.cells) ≡ length cells - row.cells =
-      rw (length-append, length-take, length-drop) (omega (arith, lies.until)) in
+    rw (length-append, length-take, length-drop) (omega (arith, lies.until)) in
     record {
       laid = rw (len, add-one) (laid_without rows 0 0 (length cells) fresh d at flat.laid within);
       few = rw len (omega (arith, flat.few));
       small = All-append (λ cell. cell < 2 ^ 44) (take row.start cells) (drop (row.start + row.cells) cells)
-        (All-take (λ cell. cell < 2 ^ 44) row.start cells flat.small) (All-drop (λ cell. cell < 2 ^ 44) (row.start + row.cells) cells flat.small);
+          (All-take (λ cell. cell < 2 ^ 44) row.start cells flat.small) (All-drop (λ cell. cell < 2 ^ 44) (row.start + row.cells) cells flat.small);
       bounded = flat.bounded;
       row_room = flat.row_room;
       cell_room = flat.cell_room;
@@ -174,9 +173,9 @@ after (row ∷ rows) start least end fresh laid d e (suc i) (suc j) before withi
 pub room_behind : (rows : List Row) (end fresh : ℕ) (d : Row) (at : ℕ) → AreLaid 0 0 rows end fresh → at < length rows → All (λ row. (get_or rows at d).cells ≤ row.start) (drop (at + 1) rows)
 room_behind rows end fresh d at laid within = λ k e h.
     rw (get_or-drop (at + 1) rows k e)
-      (let len : length (drop (at + 1) rows) ≡ length rows - (at + 1) = length-drop (at + 1) rows in
-       let h' = after rows 0 0 end fresh laid d e at (at + 1 + k) (omega arith) (omega (arith, h)) in
-       omega (arith, h'))
+    (let len : length (drop (at + 1) rows) ≡ length rows - (at + 1) = length-drop (at + 1) rows in
+    let h' = after rows 0 0 end fresh laid d e at (at + 1 + k) (omega arith) (omega (arith, h)) in
+    omega (arith, h'))
 
 -- the table after a removal, behind the place
 pub drop-removed : (rows xs : List Row) (at : ℕ) → at < length rows → xs ≡ take at rows ++ drop (at + 1) rows → drop at xs ≡ drop (at + 1) rows

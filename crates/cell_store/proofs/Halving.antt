@@ -1,5 +1,5 @@
 -- The cost of a search by halving.
-use Rattle.std.proofs.Common.{ℕ, ◌+◌, ◌-◌, ◌*◌, ◌/◌, ◌^◌, ◌<◌, ◌≤◌, ◌≡◌, max, suc, arith, ap, ◌∙◌}
+use Rattle.std.proofs.Common.{ℕ, ◌+◌, ◌-◌, ◌*◌, ◌/◌, ◌^◌, ◌≤◌, ◌≡◌, max, suc, arith}
 use Rattle.std.proofs.Math.Nat.{mul-le-mul_left}
 
 -- one step more: twice as many

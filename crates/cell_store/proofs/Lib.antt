@@ -3,3 +3,4 @@ pub mod Halving
 pub mod Access
 pub mod Begin
 pub mod End
+pub mod Listed

@@ -1,5 +1,5 @@
 -- The lines of a table by their numbers.
-use Rattle.std.proofs.Common.{ℕ, ◌+◌, ◌<◌, ◌≤◌, ◌≡◌, ◌≢◌, zero, suc, List, [], ◌∷◌, length, get_or, Option, Some, None, cond, eqb, refl, ap, subst, ◌∙◌, ◌⊎◌, ⊎_elim, arith}
+use Rattle.std.proofs.Common.{ℕ, ◌<◌, ◌≤◌, ◌≡◌, ◌≢◌, zero, suc, List, [], ◌∷◌, length, get_or, Some, None, cond, eqb, refl, ap, subst, ◌∙◌, ◌⊎◌, ⊎_elim, arith}
 use Rattle.std.proofs.lemmas.Bool.{ne_eqb, eq-eqb, cases_lt}
 use Rattle.std.proofs.lemmas.List.{get_or_default}
 use Rattle.cell_store.specs.declared.table.Row.{Row}
@@ -41,7 +41,7 @@ row_of_at (row ∷ rows) start least end fresh laid d zero number within is =
     ap (λ b. cond b (Some row) (row_of rows number)) (eq-eqb row.number number is)
 row_of_at (row ∷ rows) start least end fresh laid d (suc k) number within is =
     let other : eqb row.number number ≡ _ =
-        ne_eqb row.number number (λ e. absurd (omega (arith, from_least rows _ _ end fresh laid.3 d k (omega arith)))) in
+    ne_eqb row.number number (λ e. absurd (omega (arith, from_least rows _ _ end fresh laid.3 d k (omega arith)))) in
     ap (λ b. cond b (Some row) (row_of rows number)) other ∙ row_of_at rows _ _ end fresh laid.3 d k number (omega arith) is
 
 -- where no line has the number there is none

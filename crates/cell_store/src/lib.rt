@@ -6,9 +6,11 @@
 //! contracts. The crate stands on srmt_base, which has the definition.
 #![tactic(auto)]
 
+mod plain;
 mod steps;
 mod store;
 mod table;
 
+pub use plain::PlainStore;
 pub use steps::Steps;
 pub use store::Store;

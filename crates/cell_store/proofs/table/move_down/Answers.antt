@@ -1,4 +1,4 @@
-use Rattle.std.proofs.Common.{◌<◌, ◌∙◌, length, arith, ap}
+use Rattle.std.proofs.Common.{arith}
 use Rattle.cell_store.specs.Flat.{moved_down}
 use Rattle.cell_store.proofs.End.{mapped_more}
 use Rattle.cell_store.proofs.table.move_down.Goals as goal

@@ -1,4 +1,4 @@
-use Rattle.std.proofs.Common.{ℕ, ◌+◌, ◌-◌, ◌*◌, ◌/◌, ◌<◌, ◌≤◌, ◌≡◌, ◌≢◌, length, get_or, sym, ◌∙◌, ap, arith, rules}
+use Rattle.std.proofs.Common.{◌-◌, ◌∙◌, ap, arith}
 use Rattle.std.proofs.lemmas.List.{get_or_default}
 use Rattle.cell_store.specs.declared.table.Row.{Row}
 use Rattle.cell_store.proofs.Rows.{all_below, all_above, row_of_at, row_of_apart}

@@ -1,5 +1,4 @@
-use Rattle.std.proofs.Common.{ℕ, ◌≡◌, ◌+◌, ◌-◌, ◌<◌, ◌++◌, length, take, drop, get_or, arith, sym, ◌∙◌}
-use Rattle.cell_store.specs.declared.table.Row.{Row}
+use Rattle.std.proofs.Common.{◌≡◌, ◌+◌, ◌++◌, take, drop, arith, ◌∙◌}
 use Rattle.cell_store.specs.Flat.{moved_down}
 use Rattle.cell_store.proofs.End.{took_out, room_after}
 use Rattle.cell_store.proofs.table.take_out.Goals as goal

@@ -1,7 +1,6 @@
-use Rattle.std.proofs.Common.{ℕ, ◌≡◌, ◌+◌, ◌-◌, ◌<◌, ◌≤◌, ◌++◌, ◌∷◌, [], List, length, replicate, Ok, Err, arith, ◌∙◌, sym, ap, ◌⊎◌, inl, inr}
+use Rattle.std.proofs.Common.{◌≡◌, ◌+◌, ◌<◌, ◌++◌, length, replicate, arith, ◌∙◌, sym, ap, ◌⊎◌, inl, inr}
 use Rattle.srmt_base.specs.Objects.{Objects, add_of}
-use Rattle.cell_store.specs.declared.table.Row.{Row}
-use Rattle.cell_store.proofs.Begin.{add-ok, add-err, few_rows, flat_begun, resized, new_row}
+use Rattle.cell_store.proofs.Begin.{add-ok, add-err, few_rows, flat_begun, resized}
 use Rattle.cell_store.proofs.store.Store.add.Goals as goal
 use Rattle.cell_store.proofs.store.Store.add.Goals.{then-from-self-via-then-from-self, then-from-self-via-else-from-self+then-room-cells}
 
@@ -9,9 +8,10 @@ pub returns-then-from-self-clause-trap : goal.returns-then-from-self-clause-trap
 returns-then-from-self-clause-trap c =
     let s = c.self.inside in
     let refused : (c.args.number < s.fresh) ⊎ (s.budget < length s.cells.items + c.args.cells) =
-      elim c.then-from-self.branch [
-        then-from-self-via-then-from-self w ↦ inl (omega (arith, w.if-from-self.true))
-      | then-from-self-via-else-from-self+then-room-cells w ↦ inr (omega (arith, w.if-room-cells.true, s.cells.ok.0, c.self.invariant.few)) ] in
+    elim c.then-from-self.branch [
+      | then-from-self-via-then-from-self w ↦ inl (omega (arith, w.if-from-self.true))
+      | then-from-self-via-else-from-self+then-room-cells w ↦ inr (omega (arith, w.if-room-cells.true, s.cells.ok.0, c.self.invariant.few))
+    ] in
     ap (λ (o : Objects). add_of o c.args.number c.args.cells c.args.read_only) (sym c.self.view_is)
     ∙ add-err s.budget s.fresh s.rows.items s.cells.items c.args.number c.args.cells c.args.read_only c.self.invariant.laid refused
 

@@ -1,7 +1,6 @@
-use Rattle.std.proofs.Common.{ℕ, ◌≡◌, ◌+◌, ◌<◌, ◌≤◌, ◌++◌, Some, None, length, map, take, drop, get_or, arith, sym, ap, ◌∙◌}
-use Rattle.srmt_base.specs.Objects.{Objects, is_live, end_of}
-use Rattle.cell_store.specs.declared.table.Row.{Row}
-use Rattle.cell_store.specs.Flat.{row_of, moved_down, without}
+use Rattle.std.proofs.Common.{◌≡◌, ◌<◌, Some, None, length, get_or, arith, sym, ap, ◌∙◌}
+use Rattle.srmt_base.specs.Objects.{Objects, is_live}
+use Rattle.cell_store.specs.Flat.{row_of}
 use Rattle.cell_store.proofs.End.{is_live-flat, end-none, end-row, flat_without_row, row_within}
 use Rattle.cell_store.proofs.store.Store.end.Goals as goal
 

@@ -1,5 +1,4 @@
-use Rattle.std.proofs.Common.{ℕ, ◌≡◌, ◌<◌, ◌≤◌, Some, None, false, length, map, get_or, arith, sym, ap, ◌∙◌}
-use Rattle.srmt_base.specs.Objects.{Objects, live_at, is_live}
+use Rattle.std.proofs.Common.{◌≡◌, ◌<◌, Some, None, false, length, get_or, arith, sym}
 use Rattle.cell_store.specs.declared.table.Row.{Row}
 use Rattle.cell_store.specs.Flat.{row_of}
 use Rattle.cell_store.proofs.Access.{live_at-place}
