@@ -6,3 +6,4 @@ pub mod Pointer
 pub mod Trap
 pub mod Types
 pub mod Word
+pub mod Objects
