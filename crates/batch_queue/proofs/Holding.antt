@@ -11,9 +11,8 @@ use lib.Seq.{set-get_or}
 use prog.Atomic.{either}
 use Rattle.atomic_table.proofs.Lists.{exchanged}
 use Rattle.srmt_base.specs.Word.{IsWord}
-use Rattle.batch_queue.specs.Views.{pushed, published_all, closed_now, saw_head, discarded, took, released_all, gone_now, saw_tail}
+use Rattle.batch_queue.specs.Views.{pushed, published_all, closed_now, saw_head, discarded, took, released_all, gone_now, saw_tail, HeadGrows, TailGrows, Agree}
 use Rattle.batch_queue.specs.Rule.{index_word, place, Holds}
-use Rattle.batch_queue.specs.Plays.{HeadGrows, TailGrows, Agree}
 use Rattle.batch_queue.specs.declared.view.SendView.{SendView}
 use Rattle.batch_queue.specs.declared.view.TakeView.{TakeView}
 use Rattle.batch_queue.proofs.Numbers.{count_read, mark_read, unmarked, apart}

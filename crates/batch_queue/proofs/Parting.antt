@@ -7,9 +7,9 @@ use lib.ListN.{get_elem?}
 use lib.Seq.{set-get_or}
 use Rattle.atomic_table.specs.Table.{step, keeps, opening, stepped, Allows, Splits, Joins}
 use Rattle.atomic_table.proofs.Lists.{at_set, at_snoc, set_again}
-use Rattle.batch_queue.specs.Views.{new_sender, new_receiver}
+use Rattle.batch_queue.specs.Views.{new_sender, new_receiver, Agree}
 use Rattle.batch_queue.specs.Rule.{Holds, Knows, Ruled, both_ends}
-use Rattle.batch_queue.specs.Plays.{Sat, settled, sender_part, receiver_part, joined, spent_part, Agree}
+use Rattle.batch_queue.specs.Plays.{Sat, settled, sender_part, receiver_part, joined, spent_part}
 use Rattle.batch_queue.specs.declared.view.SendView.{SendView}
 use Rattle.batch_queue.specs.declared.view.TakeView.{TakeView}
 use Rattle.batch_queue.specs.declared.view.View.{View}

@@ -6,9 +6,9 @@ use prog.Atomic.{either}
 use Rattle.atomic_table.specs.Table.{State, step, keeps, Allows}
 use Rattle.atomic_table.proofs.Lists.{at_set}
 use Rattle.srmt_base.specs.Word.{IsWord}
-use Rattle.batch_queue.specs.Views.{pushed, published_all, closed_now, saw_head, discarded, took, released_all, gone_now, saw_tail}
+use Rattle.batch_queue.specs.Views.{pushed, published_all, closed_now, saw_head, discarded, took, released_all, gone_now, saw_tail, HeadGrows, TailGrows}
 use Rattle.batch_queue.specs.Rule.{place, Holds, Knows, Ruled}
-use Rattle.batch_queue.specs.Plays.{Sat, SendsAs, TakesAs, stored_slot, stored_tail, stored_last_tail, loaded_head, dropped_word, loaded_slot, stored_head, stored_last_head, loaded_tail, HeadGrows, TailGrows}
+use Rattle.batch_queue.specs.Plays.{Sat, SendsAs, TakesAs, stored_slot, stored_tail, stored_last_tail, loaded_head, dropped_word, loaded_slot, stored_head, stored_last_head, loaded_tail}
 use Rattle.batch_queue.specs.declared.view.SendView.{SendView}
 use Rattle.batch_queue.specs.declared.view.TakeView.{TakeView}
 use Rattle.batch_queue.specs.declared.view.View.{View}

@@ -1,13 +1,13 @@
--- What each atomic step tells the end that makes it.
-use Rattle.std.specs.Prelude.{◌≡◌, ℕ, ◌/◌, ◌%◌, ◌≤◌, ◌==◌, Bool, true, false, [], length}
-use mathlib.Core.List.{IsPrefix}
+-- The kinds of atomic steps, and what each tells the end that makes it.
+use Rattle.std.specs.Prelude.{◌≡◌, ℕ, ◌/◌, ◌%◌, ◌==◌, true, false}
 use Rattle.atomic_table.specs.Table.{Me, Step}
 use Rattle.srmt_base.specs.Word.{IsWord}
-use Rattle.batch_queue.specs.Views.{pushed, published_all, closed_now, saw_head, discarded, took, released_all, gone_now, saw_tail, new_sender, new_receiver}
+use Rattle.batch_queue.specs.Views.{new_sender, pushed, published_all, closed_now, saw_head, HeadGrows, discarded, new_receiver, took, released_all, gone_now, saw_tail, TailGrows, Agree}
 use Rattle.batch_queue.specs.declared.view.SendView.{SendView}
 use Rattle.batch_queue.specs.declared.view.TakeView.{TakeView}
 use Rattle.batch_queue.specs.declared.view.View.{View}
 
+-- a seat: its view, and the slots that it holds, of which a queue's table has none
 abbrev pub Sat : Type 0
 Sat = Me (Unit {0}) View
 
@@ -19,64 +19,59 @@ SendsAs m x m' = (m'.0 ≡ record m.0 { sends = x }) × (m'.1 ≡ m.1)
 abbrev pub TakesAs : Sat → TakeView → Sat → Type 0
 TakesAs m y m' = (m'.0 ≡ record m.0 { takes = y }) × (m'.1 ≡ m.1)
 
+-- Each of the following is over the step, the seat before, the number that was found or stored, and the seat after.
+
+-- the sender stores a word in a place of the ring
 abbrev pub stored_slot : Step (Unit {0}) → Sat → ℕ → Sat → Type 0
-stored_slot st m found m' = SendsAs m (pushed m.0.sends st.first) m'
+stored_slot step before found after = SendsAs before (pushed before.0.sends step.first) after
 
+-- the sender stores the tail
 abbrev pub stored_tail : Step (Unit {0}) → Sat → ℕ → Sat → Type 0
-stored_tail st m found m' = SendsAs m (published_all m.0.sends) m'
+stored_tail step before found after = SendsAs before (published_all before.0.sends) after
 
+-- the sender stores the tail with the closed bit
 abbrev pub stored_last_tail : Step (Unit {0}) → Sat → ℕ → Sat → Type 0
-stored_last_tail st m found m' = SendsAs m (closed_now m.0.sends) m'
+stored_last_tail step before found after = SendsAs before (closed_now before.0.sends) after
 
--- the receiver has released no fewer places than before, and no more than were published; and once gone it stays gone
-pub record HeadGrows (x : SendView) (released : ℕ) (gone : Bool) : Type 0 where
-  pub no_fewer : x.known_released ≤ released
-  pub no_more : released ≤ x.published
-  pub stays_gone : x.known_gone ≡ true → gone ≡ true
-
+-- the sender loads the head: what it then knows is what it found there
 abbrev pub loaded_head : Step (Unit {0}) → Sat → ℕ → Sat → Type 0
-loaded_head st m found m' = SendsAs m (saw_head m.0.sends (found / 2) (found % 2 == 1)) m' × HeadGrows m.0.sends (found / 2) (found % 2 == 1)
+loaded_head step before found after =
+    SendsAs before (saw_head before.0.sends (found / 2) (found % 2 == 1)) after × HeadGrows before.0.sends (found / 2) (found % 2 == 1)
 
--- the dropped word is told as what the tail was compared with
+-- the sender drops a word, by a step that changes no word of the table: the tail is compared with the word and replaced by it
 abbrev pub dropped_word : Step (Unit {0}) → Sat → ℕ → Sat → Type 0
-dropped_word st m found m' = SendsAs m (discarded m.0.sends st.first) m'
+dropped_word step before found after = SendsAs before (discarded before.0.sends step.first) after
 
+-- the receiver loads a word from a place of the ring
 abbrev pub loaded_slot : Step (Unit {0}) → Sat → ℕ → Sat → Type 0
-loaded_slot st m found m' = TakesAs m (took m.0.takes found) m' × IsWord found
+loaded_slot step before found after = TakesAs before (took before.0.takes found) after × IsWord found
 
+-- the receiver stores the head
 abbrev pub stored_head : Step (Unit {0}) → Sat → ℕ → Sat → Type 0
-stored_head st m found m' = TakesAs m (released_all m.0.takes) m'
+stored_head step before found after = TakesAs before (released_all before.0.takes) after
 
+-- the receiver stores the head with the gone bit
 abbrev pub stored_last_head : Step (Unit {0}) → Sat → ℕ → Sat → Type 0
-stored_last_head st m found m' = TakesAs m (gone_now m.0.takes) m'
+stored_last_head step before found after = TakesAs before (gone_now before.0.takes) after
 
--- the sender has published no fewer words than before, and once closed it stays closed
-pub record TailGrows (y : TakeView) (published : ℕ) (closed : Bool) : Type 0 where
-  pub no_fewer : y.known_published ≤ published
-  pub stays_closed : y.known_closed ≡ true → closed ≡ true
-  pub all_published : y.known_closed ≡ true → published ≡ y.known_published
-
+-- the receiver loads the tail: what it then knows is what it found there
 abbrev pub loaded_tail : Step (Unit {0}) → Sat → ℕ → Sat → Type 0
-loaded_tail st m found m' = TakesAs m (saw_tail m.0.takes (found / 2) (found % 2 == 1)) m' × TailGrows m.0.takes (found / 2) (found % 2 == 1)
+loaded_tail step before found after =
+    TakesAs before (saw_tail before.0.takes (found / 2) (found % 2 == 1)) after × TailGrows before.0.takes (found / 2) (found % 2 == 1)
 
--- what the two ends of one queue know of each other, once both are in one hand again
-pub record Agree (x : SendView) (y : TakeView) : Type 0 where
-  pub in_order : IsPrefix y.received x.sent
-  pub whole : y.known_closed ≡ true → length y.received ≡ y.known_published → y.received ≡ x.sent
-  pub closed : y.known_closed ≡ true → x.closed ≡ true
-  pub gone : x.known_gone ≡ true → y.gone ≡ true
-  pub closed_first : y.knew_closed ≡ true → (x.closed ≡ true) × (x.knew_gone ≡ false) × (x.dropped ≡ [])
-  pub dropped_late : x.known_gone ≡ false → x.dropped ≡ []
-
+-- a seat that has both parts loads a word, and learns how they fit together
 abbrev pub settled : Step (Unit {0}) → Sat → ℕ → Sat → Type 0
-settled st m found m' = (m' ≡ m) × Agree m.0.sends m.0.takes
+settled step before found after = (after ≡ before) × Agree before.0.sends before.0.takes
 
--- how the first seat is parted, and the two are joined again
+-- The first seat is split: it keeps the sender's part, and a new seat has the receiver's.
+
 abbrev pub sender_part : View → View
 sender_part v = record { sends = v.sends; takes = new_receiver; is_sender = true; is_receiver = false }
 
 abbrev pub receiver_part : View → View
 receiver_part v = record { sends = new_sender; takes = v.takes; is_sender = false; is_receiver = true }
+
+-- The two seats are joined: the sender's has both parts, and the other none.
 
 abbrev pub joined : View → View → View
 joined v w = record { sends = v.sends; takes = w.takes; is_sender = true; is_receiver = true }

@@ -23,7 +23,7 @@ index_word count mark = 2 * count + bit_of mark
 abbrev pub place : ℕ → ℕ → ℕ
 place cap position = 2 + position % cap
 
--- what is known of the other end lags behind it, and the words on the way fit into the ring
+-- what an end knows of the other lags behind it, and what was sent and is not known to be released fits into the ring
 pub record Order (cap : ℕ) (x : SendView) (y : TakeView) : Type 0 where
   pub released_known : x.known_released ≤ y.released
   pub received_released : y.released ≤ length y.received
@@ -32,33 +32,37 @@ pub record Order (cap : ℕ) (x : SendView) (y : TakeView) : Type 0 where
   pub sent_published : x.published ≤ length x.sent
   pub sent_fits : length x.sent ≤ x.known_released + cap
 
--- the marks of the two ends
+-- the marks of the two ends: what is known of a mark is so, and the closed bit comes with the last word
 pub record Closing (x : SendView) (y : TakeView) : Type 0 where
   pub closed_publishes : x.closed ≡ true → x.published ≡ length x.sent
   pub closed_known : y.known_closed ≡ true → (x.closed ≡ true) × (y.known_published ≡ x.published)
   pub gone_known : x.known_gone ≡ true → y.gone ≡ true
 
--- what an end knew of the other's mark when it set its own: not both knew
+-- what an end knew of the other's mark when it set its own; not both knew
 pub record Knowledge (x : SendView) (y : TakeView) : Type 0 where
   pub sender_knew : x.knew_gone ≡ true → (x.closed ≡ true) × (y.gone ≡ true)
   pub receiver_knew : y.knew_closed ≡ true → (y.gone ≡ true) × (y.known_closed ≡ true) × (x.knew_gone ≡ false)
 
--- a word is dropped only where the receiver is known to be gone, and none after the sender closed
+-- words are dropped only while the receiver is known to be gone and the sender has not closed
 pub record Dropping (x : SendView) : Type 0 where
   pub none_before_gone : x.known_gone ≡ false → x.dropped ≡ []
   pub none_after_closing : x.closed ≡ true → x.knew_gone ≡ false → x.dropped ≡ []
 
 pub record Holds (cap : ℕ) (words : List ℕ) (x : SendView) (y : TakeView) : Type 0 where
+  -- the tail has what is published and the closed bit, the head what is released and the gone bit
   pub index_words : (slice_index words 0 ≡ index_word x.published x.closed) × (slice_index words 1 ≡ index_word y.released y.gone)
   pub order : Order cap x y
+  -- what was sent and is not released stands in the ring
   pub ring : (k : ℕ) → y.released ≤ k → k < length x.sent → slice_index words (place cap k) ≡ slice_index x.sent k
+  -- what was received is what was sent first, in order
   pub prefix : IsPrefix y.received x.sent
   pub closing : Closing x y
   pub knowledge : Knowledge x y
   pub dropping : Dropping x
+  -- each number that was sent is a word
   pub every_word : All IsWord x.sent
 
--- the seat `j` knows its part: what the sender knows only the seat `sender` knows, and the receiver's part only the seat `taker`
+-- the seat `j` has the sender's part only if it is the seat `sender`, and the receiver's only if it is the seat `taker`
 abbrev pub Knows : ℕ → ℕ → SendView → TakeView → ℕ → View → Type 0
 Knows sender taker x y j v = (v.is_sender ≡ true → (j ≡ sender) × (v.sends ≡ x)) × (v.is_receiver ≡ true → (j ≡ taker) × (v.takes ≡ y))
 

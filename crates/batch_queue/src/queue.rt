@@ -1,6 +1,5 @@
-ghost use Rattle.std.specs.Prelude.{◌≡◌, ◌≤◌, true, false, [], length, IfOk};
-ghost use mathlib.Core.List.{IsPrefix};
-ghost use Rattle.batch_queue.specs.Views.{new_sender, new_receiver};
+ghost use Rattle.std.specs.Prelude.{◌≡◌, ◌≤◌, length, IfOk};
+ghost use Rattle.batch_queue.specs.Views.{new_sender, new_receiver, Agree};
 ghost use Rattle.batch_queue.specs.Ends.{sending, taking, sends_to, takes_from};
 
 use crate::receiver::Receiver;
@@ -49,15 +48,9 @@ pub fn rejoin<const CAP: usize, const BATCH: usize>(
     receiver: Receiver<CAP, BATCH>,
 ) -> (u64, u64)
     requires { takes_from receiver ≡ sends_to sender }
-    ensures counts { (result.0 ≡ length (sending sender.entry).sent) × (result.1 ≡ length (taking receiver.entry).received) }
-    ensures in_order { IsPrefix (taking receiver.entry).received (sending sender.entry).sent }
-    ensures whole { (taking receiver.entry).known_closed ≡ true → length (taking receiver.entry).received ≡ (taking receiver.entry).known_published → (taking receiver.entry).received ≡ (sending sender.entry).sent }
-    ensures closed { (taking receiver.entry).known_closed ≡ true → (sending sender.entry).closed ≡ true }
-    ensures gone { (sending sender.entry).known_gone ≡ true → (taking receiver.entry).gone ≡ true }
-
-    // The receiver that knew, when it went, that the sender had closed.
-    ensures closed_first { (taking receiver.entry).knew_closed ≡ true → ((sending sender.entry).closed ≡ true) × ((sending sender.entry).knew_gone ≡ false) × ((sending sender.entry).dropped ≡ []) }
-    ensures dropped_late { (sending sender.entry).known_gone ≡ false → (sending sender.entry).dropped ≡ [] }
+    ensures sent { result.0 ≡ length (sending sender.entry).sent }
+    ensures received { result.1 ≡ length (taking receiver.entry).received }
+    ensures agree { Agree (sending sender.entry) (taking receiver.entry) }
 {
     let counts = (sender.sent, receiver.received);
     let Sender {

@@ -26,9 +26,8 @@ pub struct Receiver<const CAP: usize, const BATCH: usize> {
 
 impl<const CAP: usize, const BATCH: usize> Receiver<CAP, BATCH> {
     ghost use Rattle.srmt_base.specs.Word.{IsWord};
-    ghost use Rattle.batch_queue.specs.Views.{IsEmpty, took, released_all, released_at, gone_now, saw_tail};
+    ghost use Rattle.batch_queue.specs.Views.{IsEmpty, took, released_all, released_at, gone_now, saw_tail, TailGrows};
     ghost use Rattle.batch_queue.specs.Ends.{taking, takes_from};
-    ghost use Rattle.batch_queue.specs.Plays.{TailGrows};
 
     /// Takes the next word that is known to be published, and releases once `BATCH` places are not released.
     pub fn try_take(&mut self) -> Option<Word>

@@ -38,9 +38,8 @@ pub struct Sender<const CAP: usize, const BATCH: usize> {
 
 impl<const CAP: usize, const BATCH: usize> Sender<CAP, BATCH> {
     ghost use Rattle.srmt_base.specs.Word.{IsWord};
-    ghost use Rattle.batch_queue.specs.Views.{free_places, IsFull, pushed, published_all, published_at, closed_now, saw_head, discarded};
+    ghost use Rattle.batch_queue.specs.Views.{free_places, IsFull, pushed, published_all, published_at, closed_now, saw_head, HeadGrows, discarded};
     ghost use Rattle.batch_queue.specs.Ends.{sending, sends_to};
-    ghost use Rattle.batch_queue.specs.Plays.{HeadGrows};
 
     /// Puts a word into the ring, and publishes once `BATCH` words are not published.
     pub fn try_push(&mut self, word: Word) -> Pushed
