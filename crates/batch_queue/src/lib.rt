@@ -10,6 +10,8 @@ mod queue;
 mod receiver;
 mod rule;
 mod sender;
+#[cfg(test)]
+mod tests;
 mod view;
 
 pub use queue::{new, rejoin};
