@@ -66,9 +66,7 @@ impl<const CAP: usize, const BATCH: usize> Receiver<CAP, BATCH> {
         ensures found { TailGrows (taking self.old) (taking self.new).known_published (taking self.new).known_closed }
         ensures queue { takes_from self.new ≡ takes_from self.old }
     {
-        let tail = self.table.shared.load::<LoadTail>(&mut self.seat, TAIL);
-        self.published = tail / 2;
-        self.closed = tail % 2 == 1;
+        self.look();
     }
 
     /// Whether the sender is known to have closed.
@@ -88,6 +86,17 @@ impl<const CAP: usize, const BATCH: usize> Receiver<CAP, BATCH> {
             .shared
             .store::<StoreLastHead>(&mut self.seat, HEAD, 2 * self.received + 1);
         self.released = self.received;
+    }
+
+    // Loads the tail, whatever is released.
+    fn look(&mut self)
+        ensures looked { taking self.new ≡ saw_tail (taking self.old) (taking self.new).known_published (taking self.new).known_closed }
+        ensures found { TailGrows (taking self.old) (taking self.new).known_published (taking self.new).known_closed }
+        ensures queue { takes_from self.new ≡ takes_from self.old }
+    {
+        let tail = self.table.shared.load::<LoadTail>(&mut self.seat, TAIL);
+        self.published = tail / 2;
+        self.closed = tail % 2 == 1;
     }
 
     // Loads the bits of the word in the next place of the ring.

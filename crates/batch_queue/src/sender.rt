@@ -79,9 +79,7 @@ impl<const CAP: usize, const BATCH: usize> Sender<CAP, BATCH> {
         ensures found { HeadGrows (sending self.old) (sending self.new).known_released (sending self.new).known_gone }
         ensures queue { sends_to self.new ≡ sends_to self.old }
     {
-        let head = self.table.shared.load::<LoadHead>(&mut self.seat, HEAD);
-        self.released = head / 2;
-        self.gone = head % 2 == 1;
+        self.look();
     }
 
     /// Whether the receiver is known to be gone.
@@ -131,6 +129,17 @@ impl<const CAP: usize, const BATCH: usize> Sender<CAP, BATCH> {
             .shared
             .store::<StoreLastTail>(&mut self.seat, TAIL, 2 * self.sent + 1);
         self.published = self.sent;
+    }
+
+    // Loads the head, whatever is published.
+    fn look(&mut self)
+        ensures looked { sending self.new ≡ saw_head (sending self.old) (sending self.new).known_released (sending self.new).known_gone }
+        ensures found { HeadGrows (sending self.old) (sending self.new).known_released (sending self.new).known_gone }
+        ensures queue { sends_to self.new ≡ sends_to self.old }
+    {
+        let head = self.table.shared.load::<LoadHead>(&mut self.seat, HEAD);
+        self.released = head / 2;
+        self.gone = head % 2 == 1;
     }
 
     // Stores the bits of a word in the next place of the ring.

@@ -17,10 +17,7 @@ fn word(value: u64) -> Word
 }
 
 // Pushes the word of a number that is no less than what was pushed before.
-fn push<const CAP: usize, const BATCH: usize>(
-    sender: &mut Sender<CAP, BATCH>,
-    value: u64,
-) -> Pushed
+fn push<const CAP: usize, const BATCH: usize>(sender: &mut Sender<CAP, BATCH>, value: u64) -> Pushed
     requires still_open { (sending sender.old).closed ≡ false }
     requires small { (length (sending sender.old).sent ≤ value) × (value < 2 ^ 44) }
     ensures still_open { (sending sender.new).closed ≡ false }
@@ -238,11 +235,7 @@ fn send<R: Wait>(rt: &R, mut sender: Sender<64, 16>, count: u64) -> Sender<64, 1
 }
 
 // The receiver's thread: it also says whether the words below `count` came in order, and then none.
-fn receive<R: Wait>(
-    rt: &R,
-    mut receiver: Receiver<64, 16>,
-    count: u64,
-) -> (Receiver<64, 16>, bool)
+fn receive<R: Wait>(rt: &R, mut receiver: Receiver<64, 16>, count: u64) -> (Receiver<64, 16>, bool)
     requires receiver { taking receiver ≡ new_receiver }
     requires small { count < 2 ^ 44 }
     ensures { takes_from result.0 ≡ takes_from receiver }
