@@ -5,6 +5,15 @@
 //! stands on `srmt_base` for the types of numbers.
 #![tactic(auto)]
 
+ghost use Rattle.c_lexer.specs.Tokens.{Lexes, Refuses, text_bytes};
+ghost use Rattle.c_lexer.specs.Scan.{front};
+
+mod bytes;
+mod number;
+mod piece;
+mod quoted;
+mod space;
 mod token;
+mod word;
 
 pub use token::{KEYWORDS, LexRefusal, PUNCTUATORS, Token, TokenKind};
