@@ -204,20 +204,20 @@ escape_byte c =
 abbrev pub byte_of : ℕ → ℕ → Option (ℕ × ℕ)
 byte_of value len = if nat_lt value 256 then Some (value, len) else None
 
-abbrev pub octal_len : Bytes → ℕ
+-- how many octal digits the bytes begin with, up to three
+unfoldable pub octal_len : Bytes → ℕ
 octal_len bytes = prefix_len (λ b. is_digit b 8) (take 3 bytes)
 
-abbrev pub hexadecimal_len : Bytes → ℕ
-hexadecimal_len bytes = prefix_len (λ b. is_digit b 16) bytes
+-- how many hexadecimal digits follow the `x` that the bytes begin with
+unfoldable pub hexadecimal_len : Bytes → ℕ
+hexadecimal_len bytes = if slice_index bytes 0 == 120 then prefix_len (λ b. is_digit b 16) (drop 1 bytes) else 0
 
 -- What an escape means whose `\` these bytes follow, and how many bytes spell it with the `\`: up to three octal
 -- digits, `x` and all hexadecimal digits that follow, or a letter or mark.
 unfoldable pub escape : Bytes → Option (ℕ × ℕ)
 escape bytes =
-    let octal = octal_len bytes in
-    let hexadecimal = hexadecimal_len (drop 1 bytes) in
-    if nat_lt 0 octal then byte_of (value_in 8 (take octal bytes)) (octal + 1)
-    else (if slice_index bytes 0 == 120 && nat_lt 0 hexadecimal then byte_of (value_in 16 (take hexadecimal (drop 1 bytes))) (hexadecimal + 2)
+    if nat_lt 0 (octal_len bytes) then byte_of (value_in 8 (take (octal_len bytes) bytes)) (octal_len bytes + 1)
+    else (if nat_lt 0 (hexadecimal_len bytes) then byte_of (value_in 16 (take (hexadecimal_len bytes) (drop 1 bytes))) (hexadecimal_len bytes + 2)
     else option_map (λ b. (b, 2)) (escape_byte (slice_index bytes 0)))
 
 -- the first byte that a body means, and how many bytes spell it

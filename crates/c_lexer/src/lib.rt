@@ -9,6 +9,7 @@ ghost use Rattle.c_lexer.specs.Tokens.{Lexes, Refuses, text_bytes};
 ghost use Rattle.c_lexer.specs.Scan.{front};
 
 mod bytes;
+mod lexer;
 mod number;
 mod piece;
 mod quoted;

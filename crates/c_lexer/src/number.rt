@@ -13,7 +13,7 @@ use crate::piece::Piece;
 use crate::token::{LexRefusal, TokenKind};
 
 /// The value of the digits, and 2^32 for all that are no less.
-fn value_in(base: u8, digits: &[u8]) -> u64
+pub fn value_in(base: u8, digits: &[u8]) -> u64
     requires { base ≤ 16 }
     ensures { result ≡ min (tokens.value_in base digits.now) (2 ^ 32) }
 {
