@@ -5,3 +5,5 @@ pub mod Fronts
 pub mod Comments
 pub mod Names
 pub mod Quotes
+pub mod Marks
+pub mod Includes

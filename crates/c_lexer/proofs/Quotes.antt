@@ -1,6 +1,6 @@
 -- Where a quoted token ends.
 use Rattle.std.proofs.Common.{◌≡◌, ℕ, zero, suc, ◌+◌, ◌-◌, ◌≤◌, ◌<◌, ◌⊎◌, Bool, true, false, not, ◌&&◌, ◌||◌, cond, eqb, List, [], ◌∷◌, ◌++◌, length, take, drop, Option, Some, None, refl, ap, sym, ◌∙◌, subst, inl, inr, arith}
-use Rattle.std.proofs.lemmas.Bool.{and_parts, and_from, eqb-true, not-true, or_parts, or_from}
+use Rattle.std.proofs.lemmas.Bool.{and_parts, and_from, eqb-true, not-true, or_parts, cond-false}
 use Rattle.c_lexer.specs.Tokens.{Bytes, IsQuoted, is_body, is_plain, is_line_feed}
 use Rattle.c_lexer.specs.Scan.{closing}
 use Rattle.c_lexer.proofs.Choices.{chosen}
@@ -40,14 +40,14 @@ body_behind quote false body = is_body quote body
 
 body_cons : (quote b : ℕ) (body : Bytes) → is_plain quote b ≡ true → is_body quote body ≡ true → is_body quote (b ∷ body) ≡ true
 body_cons quote b [] p e = p
-body_cons quote b (c ∷ body) p e = rw (plain_parts quote b p).1 (and_from (is_plain quote b) (is_body quote (c ∷ body)) p e)
+body_cons quote b (c ∷ body) p e = cond-false (eqb b 92) _ _ (plain_parts quote b p).1 ∙ and_from (is_plain quote b) (is_body quote (c ∷ body)) p e
 
 -- one byte more that is no quote
 by_slash : (quote at n b : ℕ) (bytes : Bytes) → is_line_feed b ≡ false → eqb b quote ≡ false → (t : Bool) → eqb b 92 ≡ t
     → (body rest : Bytes) × (body_behind quote t body ≡ true) × (bytes ≡ body ++ (quote ∷ rest)) × (n ≡ at + 1 + length body)
     → (body rest : Bytes) × (body_behind quote false body ≡ true) × ((b ∷ bytes) ≡ body ++ (quote ∷ rest)) × (n ≡ at + length body)
 by_slash quote at n b bytes line other true e later =
-    (b ∷ later.0, later.1, rw (eqb-true b 92 e) later.2, ap (λ t. b ∷ t) later.3, omega (arith, later.4))
+    (b ∷ later.0, later.1, subst (λ x. is_body quote (x ∷ later.0) ≡ true) (sym (eqb-true b 92 e)) later.2, ap (λ t. b ∷ t) later.3, omega (arith, later.4))
 by_slash quote at n b bytes line other false e later =
     (b ∷ later.0, later.1, body_cons quote b later.0 (plain_from quote b other e line) later.2, ap (λ t. b ∷ t) later.3, omega (arith, later.4))
 
