@@ -7,3 +7,6 @@ pub mod Names
 pub mod Quotes
 pub mod Marks
 pub mod Includes
+pub mod Pieces
+pub mod Again
+pub mod Sources

@@ -30,7 +30,7 @@ place_fits p xs i e =
     [ inl w ↦ ltb-true (position_or_len p xs) (length xs) w.0 | inr w ↦ absurd (let t = w.1 in cc) ]
 
 -- the byte begins something other than a punctuator
-pub begins_other : ℕ → Bool
+unfoldable pub begins_other : ℕ → Bool
 begins_other b = is_blank b || begins_name b || is_ascii_digit b || is_quote b || eqb b 35
 
 -- what each punctuator is: one to three bytes, of which the first begins nothing else
@@ -47,7 +47,7 @@ place_is_mark word i e =
     let found = at_place (λ entry. bytes_eq entry.now word) (λ entry. is_mark entry.now) PUNCTUATORS (place_fits (λ entry. bytes_eq entry.now word) PUNCTUATORS i e) all_marks in
     ap is_mark (sym ((bytes_eq-Decides found.0.now word).0 found.1)) ∙ found.2
 
-some_is : {A : Type 0} (o : Option A) → IsSome o → (x : A) × (o ≡ Some x)
+pub some_is : {A : Type 0} (o : Option A) → IsSome o → (x : A) × (o ≡ Some x)
 some_is None h = absurd (cc)
 some_is (Some x) h = (x, refl)
 
@@ -97,7 +97,7 @@ longest_of len bytes f e none =
     , place
     , omega (arith, is.1, is.2))
 
-clash : {A : Type 0} {o : Option A} {x : A} → o ≡ None → o ≡ Some x → ⊥
+pub clash : {A : Type 0} {o : Option A} {x : A} → o ≡ None → o ≡ Some x → ⊥
 clash e i = absurd (cc)
 
 or_else-some : (a b : Option (ℕ × ℕ)) (f : ℕ × ℕ) → or_else a b ≡ Some f → (a ≡ Some f) ⊎ ((a ≡ None) × (b ≡ Some f))

@@ -328,7 +328,7 @@ IsBadQuoted word = (IsQuoted 39 word × (one_byte (inner word) ≡ None)) ⊎ (I
 abbrev pub IsFault : Bool → ℕ → Bytes → LexRefusal → Type 0
 IsFault first at bytes (BadByte place) = (place ≡ at) × IsStray first bytes
 IsFault first at bytes (OpenComment place) = (place ≡ at) × IsTrue (begins_with (codes "/*") bytes) × NoFront IsBlockComment bytes
-IsFault first at bytes (OpenText place) = (place ≡ at) × IsTrue (nat_lt 0 (length bytes)) × IsTrue (is_quote (slice_index bytes 0)) × NoFront (IsQuoted (slice_index bytes 0)) bytes
+IsFault first at bytes (OpenText place) = (place ≡ at) × IsTrue (is_quote (slice_index bytes 0)) × NoFront (IsQuoted (slice_index bytes 0)) bytes
 IsFault first at bytes (BadText place) = (place ≡ at) × ((word rest : Bytes) × (bytes ≡ word ++ rest) × IsBadQuoted word)
 IsFault first at bytes (BadNumber place) = (place ≡ at) × ((word rest : Bytes) × (bytes ≡ word ++ rest) × IsLongest IsNumber word rest × (is_constant word ≡ false))
 IsFault first at bytes (LiteralTooWide place) = (place ≡ at) × ((word rest : Bytes) × (bytes ≡ word ++ rest) × IsLongest IsNumber word rest × IsTrue (is_constant word) × (constant_type word ≡ None))
