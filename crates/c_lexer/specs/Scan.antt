@@ -4,6 +4,7 @@ use Rattle.std.specs.Prelude.{◌≡◌, ℕ, suc, zero, ◌+◌, ◌-◌, ◌^�
 use Rattle.std.specs.Char.{is_ascii_digit}
 use Rattle.std.specs.List.{prefix_len}
 use Rattle.srmt_base.specs.declared.ty.Ty.{Ty}
+use Rattle.c_lexer.specs.declared.token.Token.{Token}
 use Rattle.c_lexer.specs.declared.token.TokenKind.{TokenKind}
 use Rattle.c_lexer.specs.declared.token.TokenKind.TheVariants.{Keyword, Name, Number, Character, Text, Punct}
 use Rattle.c_lexer.specs.declared.token.LexRefusal.{LexRefusal}
@@ -151,3 +152,11 @@ front first at bytes =
     else (if begins_with (codes "//") bytes then Ok (LineComment, line_len bytes)
     else (if begins_with (codes "/*") bytes then block_comment at bytes
     else (if first && b == 35 then directive at bytes else mark at bytes))))))
+
+-- the token that a piece is, if it is one
+abbrev pub token_at : Piece → ℕ → ℕ → ℕ → List Token
+token_at Blank start line end = []
+token_at LineComment start line end = []
+token_at BlockComment start line end = []
+token_at Include start line end = []
+token_at (Lexeme kind) start line end = record { kind = kind; start = start; end = end; line = line } ∷ []

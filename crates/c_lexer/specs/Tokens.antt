@@ -3,7 +3,7 @@
 -- A source is cut into pieces from the left: blanks, comments, the two `#include` lines, and tokens. What is a
 -- piece is said by sets of spellings; a piece is the longest front of the remaining bytes in its set, a comment
 -- the shortest. A source with no such cut has exactly one fault, at its first place that has no piece.
-use Rattle.std.specs.Prelude.{◌≡◌, ◌≢◌, ℕ, suc, zero, ◌+◌, ◌-◌, ◌*◌, ◌^◌, ◌<◌, ◌⊎◌, Bool, true, false, not, ◌&&◌, ◌||◌, if◌then◌else◌, ◌==◌, nat_eq, nat_lt, nat_le, IsTrue, IsSome, List, [], ◌∷◌, ◌++◌, length, take, drop, fold, count_by, position, slice_index, Option, Some, None, option_map, option_and_then, codes, bytes_eq}
+use Rattle.std.specs.Prelude.{◌≡◌, ◌≢◌, ℕ, suc, zero, ◌+◌, ◌-◌, ◌*◌, ◌^◌, ◌<◌, ◌≤◌, ◌⊎◌, Bool, true, false, not, ◌&&◌, ◌||◌, if◌then◌else◌, ◌==◌, nat_eq, nat_lt, nat_le, IsTrue, IsSome, List, [], ◌∷◌, ◌++◌, length, take, drop, fold, count_by, position, slice_index, Option, Some, None, option_map, option_and_then, codes, bytes_eq}
 use Rattle.std.specs.Char.{is_ascii_alphabetic, is_ascii_alphanumeric, is_ascii_digit, is_digit, digit_value}
 use Rattle.std.specs.Int.{is_in_range}
 use Rattle.std.specs.List.{list_all, prefix_len, starts_with, concat, AllByRecursion}
@@ -345,3 +345,12 @@ Refuses bytes refusal = RefusesFrom true 0 bytes refusal
 -- the bytes of a text token of a source: what stands between its quotes, with the escapes read
 abbrev pub text_bytes : Bytes → Token → Option Bytes
 text_bytes source token = decoded (inner (take (token.end - token.start) (drop token.start source)))
+
+-- the tokens lie in a part of the source, one behind the other
+abbrev pub LieWithin : ℕ → ℕ → List Token → Type 0
+LieWithin from to [] = Unit {0}
+LieWithin from to (t ∷ ts) = (from ≤ t.start) × (t.start < t.end) × (t.end ≤ to) × LieWithin t.end to ts
+
+-- each text among the tokens of a source has its bytes
+abbrev pub HaveBytes : Bytes → List Token → Type 0
+HaveBytes source tokens = AllByRecursion (λ t. t.kind ≡ Text → IsSome (text_bytes source t)) tokens

@@ -5,9 +5,6 @@
 //! stands on `srmt_base` for the types of numbers.
 #![tactic(auto)]
 
-ghost use Rattle.c_lexer.specs.Tokens.{Lexes, Refuses, text_bytes};
-ghost use Rattle.c_lexer.specs.Scan.{front};
-
 mod bytes;
 mod lexer;
 mod number;
@@ -17,4 +14,5 @@ mod space;
 mod token;
 mod word;
 
+pub use lexer::tokens;
 pub use token::{KEYWORDS, LexRefusal, PUNCTUATORS, Token, TokenKind};

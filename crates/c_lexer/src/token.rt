@@ -1,3 +1,8 @@
+ghost use Rattle.std.specs.Prelude.{◌≡◌};
+ghost use Rattle.c_lexer.specs.declared.token.LexRefusal.TheVariants.{Memory};
+
+use std::alloc::AllocFailed;
+
 use srmt_base::Ty;
 
 /// A token of a source: the half-open range of its bytes, and its line, from 1.
@@ -50,6 +55,14 @@ pub enum LexRefusal {
     Directive(u32),
     /// There is no memory left.
     Memory,
+}
+
+impl<T: Drop> From<AllocFailed<T>> for LexRefusal {
+    ghost from_gives = { λ _ e. e ≡ Memory };
+
+    fn from(_e: AllocFailed<T>) -> LexRefusal {
+        LexRefusal::Memory
+    }
 }
 
 /// The keywords (C11 6.4.1).
