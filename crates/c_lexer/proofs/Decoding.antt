@@ -1,5 +1,5 @@
 -- The bytes that a body means, one after the other.
-use Rattle.std.proofs.Common.{◌≡◌, ℕ, zero, suc, ◌+◌, ◌-◌, ◌≤◌, ◌<◌, ◌⊎◌, Bool, true, false, cond, eqb, nat_lt, get_or, List, [], ◌∷◌, length, take, drop, Option, Some, None, option_map, option_and_then, is_some, refl, ap, sym, ◌∙◌, inl, inr, arith, length-drop}
+use Rattle.std.proofs.Common.{◌≡◌, ℕ, zero, suc, ◌+◌, ◌-◌, ◌≤◌, ◌<◌, ◌⊎◌, Bool, true, false, cond, eqb, nat_lt, get_or, List, [], ◌∷◌, ◌++◌, length, take, drop, Option, Some, None, option_map, option_and_then, is_some, refl, ap, sym, ◌∙◌, inl, inr, arith, length-drop, append_assoc, append-nil}
 use Rattle.std.proofs.lemmas.List.{drop_all, nil_from_length}
 use Rattle.std.proofs.lemmas.Bool.{eq-eqb, ne_eqb}
 use Rattle.c_lexer.specs.Tokens.{Bytes, escape, escape_byte, byte_of, octal_len, hexadecimal_len, value_in, first_byte, decoded_within, decoded, sole, one_byte}
@@ -99,3 +99,24 @@ is_some_end body e = rw (nil_from_length body e, decoded-nil) refl
 
 pub is_some_stops : (body : Bytes) → 0 < length body → first_byte body ≡ None → is_some (decoded body) ≡ false
 is_some_stops body h e = ap is_some (decoded_stops body h e)
+
+map_append : (kept : Bytes) (value : ℕ) (o : Option Bytes) → option_map (λ others. (kept ++ (value ∷ [])) ++ others) o ≡ option_map (λ others. kept ++ others) (option_map (λ others. value ∷ others) o)
+map_append kept value None = refl
+map_append kept value (Some others) = ap Some (append_assoc kept (value ∷ []) others)
+
+map_nil : (o : Option Bytes) → option_map (λ others. [] ++ others) o ≡ o
+map_nil None = refl
+map_nil (Some others) = refl
+
+-- what is decoded so far goes on with what the rest means
+pub decoded_from : (body : Bytes) → option_map (λ others. [] ++ others) (decoded body) ≡ decoded body
+decoded_from body = map_nil (decoded body)
+
+pub decoded_past : (kept body : Bytes) (f : ℕ × ℕ) → first_byte body ≡ Some f → option_map (λ others. (kept ++ (f.0 ∷ [])) ++ others) (decoded (drop f.1 body)) ≡ option_map (λ others. kept ++ others) (decoded body)
+decoded_past kept body f e = map_append kept f.0 (decoded (drop f.1 body)) ∙ ap (option_map (λ others. kept ++ others)) (sym (decoded_goes body f e))
+
+pub decoded_end : (kept body : Bytes) → length body ≡ 0 → option_map (λ others. kept ++ others) (decoded body) ≡ Some kept
+decoded_end kept body e = rw (nil_from_length body e, decoded-nil) (ap Some (append-nil kept))
+
+pub decoded_fails : (kept body : Bytes) → 0 < length body → first_byte body ≡ None → option_map (λ others. kept ++ others) (decoded body) ≡ None
+decoded_fails kept body h e = ap (option_map (λ others. kept ++ others)) (decoded_stops body h e)

@@ -10,3 +10,4 @@ pub mod Includes
 pub mod Pieces
 pub mod Again
 pub mod Sources
+pub mod Wholes

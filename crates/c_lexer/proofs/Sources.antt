@@ -86,7 +86,7 @@ lexes_or_refuses first at line bytes tokens refusal l m =
 
 -- ---- behind a piece
 
-found_piece : (first : Bool) (at : ℕ) (bytes : Bytes) (piece : Piece) (n : ℕ) → 0 < length bytes → front first at bytes ≡ Ok (piece, n) → IsPiece first piece (take n bytes) (drop n bytes)
+pub found_piece : (first : Bool) (at : ℕ) (bytes : Bytes) (piece : Piece) (n : ℕ) → 0 < length bytes → front first at bytes ≡ Ok (piece, n) → IsPiece first piece (take n bytes) (drop n bytes)
 found_piece first at [] piece n h e = absurd (omega arith)
 found_piece first at (b ∷ bytes) piece n h e = subst (Right first at (b ∷ bytes)) e (front_right first at b bytes)
 
@@ -103,7 +103,7 @@ tokens_more BlockComment word at line n ps e = ap (λ k. tokens_of (at + k) (lin
 tokens_more Include word at line n ps e = ap (λ k. tokens_of (at + k) (line + line_feeds word) ps) e
 tokens_more (Lexeme kind) word at line n ps e = ap (λ k. record { kind = kind; start = at; end = at + k; line = line } ∷ tokens_of (at + k) (line + line_feeds word) ps) e
 
-lexes_more : (first : Bool) (at line : ℕ) (bytes : Bytes) (piece : Piece) (n : ℕ) (tokens : List Token) → 0 < length bytes → n ≤ length bytes → front first at bytes ≡ Ok (piece, n)
+pub lexes_more : (first : Bool) (at line : ℕ) (bytes : Bytes) (piece : Piece) (n : ℕ) (tokens : List Token) → 0 < length bytes → n ≤ length bytes → front first at bytes ≡ Ok (piece, n)
     → LexesFrom (first_after first piece (take n bytes)) (at + n) (line + line_feeds (take n bytes)) (drop n bytes) tokens
     → LexesFrom first at line bytes (token_at piece at line (at + n) ++ tokens)
 lexes_more first at line bytes piece n tokens h fits e l =
@@ -111,7 +111,7 @@ lexes_more first at line bytes piece n tokens h fits e l =
     , (drop n bytes, sym (take-append-drop n bytes), found_piece first at bytes piece n h e, l.1)
     , ap (λ t. token_at piece at line (at + n) ++ t) l.2 ∙ sym (tokens_more piece (take n bytes) at line n l.0 (length-take-le n bytes fits)))
 
-refuses_more : (first : Bool) (at : ℕ) (bytes : Bytes) (piece : Piece) (n : ℕ) (refusal : LexRefusal) → 0 < length bytes → n ≤ length bytes → front first at bytes ≡ Ok (piece, n)
+pub refuses_more : (first : Bool) (at : ℕ) (bytes : Bytes) (piece : Piece) (n : ℕ) (refusal : LexRefusal) → 0 < length bytes → n ≤ length bytes → front first at bytes ≡ Ok (piece, n)
     → RefusesFrom (first_after first piece (take n bytes)) (at + n) (drop n bytes) refusal → RefusesFrom first at bytes refusal
 refuses_more first at bytes piece n refusal h fits e r =
     let place : at + n + length_of r.0 ≡ at + (length (take n bytes) + length_of r.0) = omega (arith, length-take-le n bytes fits) in

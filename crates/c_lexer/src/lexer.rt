@@ -1,7 +1,7 @@
 //! Cuts a source into its pieces.
 
 ghost use Rattle.std.specs.Prelude.{◌≡◌, ◌+◌, ◌-◌, ◌^◌, ◌<◌, ◌≤◌, ◌≢◌, ◌++◌, List, length, IfOk, IfErr, OnOk, MatchResult, ◌⊎◌};
-ghost use Rattle.c_lexer.specs.Tokens.{Lexes, Refuses};
+ghost use Rattle.c_lexer.specs.Tokens.{Lexes, Refuses, LieWithin, HaveBytes};
 ghost use Rattle.c_lexer.specs.declared.token.Token.{Token};
 ghost use Rattle.c_lexer.specs.declared.token.LexRefusal.{LexRefusal};
 ghost use Rattle.c_lexer.specs.Tokens as tokens;
@@ -120,6 +120,9 @@ pub fn tokens(alloc: Global, src: &[u8]) -> Result<Vec<Token>, LexRefusal>
         → MatchResult result (λ found. found.items ≡ list) (λ refusal. refusal ≡ LexRefusal.Memory) }
     ensures first { (fault : LexRefusal) → Refuses src.now fault
         → MatchResult result (λ found. ⊥) (λ refusal. (refusal ≡ fault) ⊎ (refusal ≡ LexRefusal.Memory)) }
+
+    ensures within { IfOk result (λ found. LieWithin 0 (length src.now) found.items) }
+    ensures texts { IfOk result (λ found. HaveBytes src.now found.items) }
 {
     let mut kept = Vec::new(alloc);
     let mut rest = src;

@@ -6,6 +6,7 @@
 #![tactic(auto)]
 
 mod bytes;
+mod law;
 mod lexer;
 mod number;
 mod piece;
@@ -14,5 +15,7 @@ mod space;
 mod token;
 mod word;
 
+pub use law::one_reading;
 pub use lexer::tokens;
+pub use quoted::text;
 pub use token::{KEYWORDS, LexRefusal, PUNCTUATORS, Token, TokenKind};

@@ -1,15 +1,18 @@
 //! Character constants and texts.
 
-ghost use Rattle.std.specs.Prelude.{◌≡◌, ◌+◌, ◌-◌, ◌^◌, ◌<◌, ◌≤◌, length, drop, Ok, IfOk, IfSome, slice_index, IsTrue, is_some, false};
+ghost use Rattle.std.specs.Prelude.{◌≡◌, ◌+◌, ◌-◌, ◌^◌, ◌<◌, ◌≤◌, length, drop, Ok, IfOk, IfSome, slice_index, IsTrue, is_some, false, option_map};
+ghost use Rattle.c_lexer.specs.Tokens.{text_bytes};
 ghost use Rattle.c_lexer.specs.Tokens as tokens;
 ghost use Rattle.c_lexer.specs.Scan as spec;
 ghost use Rattle.std.specs.List.{prefix_len};
 ghost use Rattle.std.specs.Char.{is_digit};
 
+use std::alloc::{AllocError, Global};
+
 use crate::bytes::{byte_at, digit_value, is_line_feed};
 use crate::number::value_in;
 use crate::piece::Piece;
-use crate::token::{LexRefusal, TokenKind};
+use crate::token::{LexRefusal, Token, TokenKind};
 
 /// How many digits of a base the bytes begin with.
 fn digits_len(base: u8, bytes: &[u8]) -> usize
@@ -203,4 +206,41 @@ pub fn quoted(bytes: &[u8], at: u32) -> Result<(Piece, usize), LexRefusal>
             Ok((Piece::Lexeme(kind), len + 2))
         }
     }
+}
+
+/// The bytes that a body means, or none where an escape is unknown or above 255.
+fn decode(alloc: Global, mut body: &[u8]) -> Result<Option<Vec<u8>>, AllocError>
+    requires { length body.now < 2 ^ 32 }
+    ensures { IfOk result (λ found. option_map (λ bytes. bytes.items) found ≡ tokens.decoded body.entry.now) }
+{
+    let mut bytes = Vec::new(alloc);
+    while !body.is_empty() {
+        let Some((b, len)) = first_byte(body) else {
+            return Ok(None);
+        };
+        bytes.push(b)?;
+        body = &body[len..];
+    }
+    Ok(Some(bytes))
+}
+
+/// What stands between the quotes of a quoted token.
+fn inner(word: &[u8]) -> &[u8]
+    ensures { result.now ≡ tokens.inner word.now }
+{
+    if word.len() < 2 {
+        &[]
+    } else {
+        &word[1..word.len() - 1]
+    }
+}
+
+/// The bytes of a text token of a source, its escapes read (C11 6.4.5); none where the token is no text.
+pub fn text(alloc: Global, src: &[u8], token: Token) -> Result<Option<Vec<u8>>, AllocError>
+    requires start { token.start ≤ token.end }
+    requires end { token.end ≤ length src.now }
+    ensures { IfOk result (λ found. option_map (λ bytes. bytes.items) found ≡ text_bytes src.now token) }
+{
+    let word = &src[token.start as usize..token.end as usize];
+    decode(alloc, inner(word))
 }

@@ -2,6 +2,7 @@ use Rattle.std.proofs.Common.{◌≡◌, ◌<◌, true, length, Err, sym, ap, �
 use Rattle.std.proofs.lemmas.Result.{err_from_is_err_and}
 use Rattle.c_lexer.specs.Tokens.{Lexes, Refuses}
 use Rattle.c_lexer.proofs.Sources.{found_fault, refuses_now, lexes_end, goes_on_to, fails_on_to, lexes_once, lexes_or_refuses, refused_from, only_from, first_from}
+use Rattle.c_lexer.proofs.Wholes.{lexes_within, lexes_have}
 use Rattle.c_lexer.proofs.lexer.tokens.Goals as goal
 
 -- the fault of what is left is the fault of the source
@@ -51,3 +52,9 @@ returns-clause-only c = λ list l. lexes_once true 0 1 c.args.src.now c.loop-res
 
 pub returns-clause-first : goal.returns-clause-first
 returns-clause-first c = λ other r. lexes_or_refuses true 0 1 c.args.src.now c.loop-rest.kept.items other (lexed c) r
+
+pub returns-clause-within : goal.returns-clause-within
+returns-clause-within c = lexes_within c.args.src.now c.loop-rest.kept.items (lexed c)
+
+pub returns-clause-texts : goal.returns-clause-texts
+returns-clause-texts c = lexes_have c.args.src.now c.loop-rest.kept.items (lexed c)
