@@ -1,0 +1,13 @@
+pub mod Choices
+pub mod Decoding
+pub mod Gaps
+pub mod Fronts
+pub mod Comments
+pub mod Names
+pub mod Quotes
+pub mod Marks
+pub mod Includes
+pub mod Pieces
+pub mod Again
+pub mod Sources
+pub mod Wholes
