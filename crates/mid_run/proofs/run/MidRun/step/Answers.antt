@@ -1,6 +1,6 @@
 use Rattle.std.proofs.Common.{◌≡◌, length, vec_len, ◌∙◌, Some, [], ◌∷◌, ap, ◌%◌, sym, arith}
 use Rattle.srmt_base.specs.declared.event.Event.TheVariants.{Byte, Exit as ExitEvent}
-use Rattle.srmt_outside.proofs.Telling.{appends_nothing}
+use Rattle.srmt_outside.proofs.Told.{Appends-nothing}
 use Rattle.mid_run.proofs.Stepping.{stands, operands, next_place, goes_on, puts, exits}
 use Rattle.mid_run.proofs.run.MidRun.step.Goals as goal
 
@@ -19,7 +19,7 @@ pub returns-in_default-act-clause-step : goal.returns-in_default-act-clause-step
 returns-in_default-act-clause-step g c =
     let s = stands c.args.program.now c.args.self.now c.self.inside c.in-Some-line.line c.requires.valid c.requires.fits c.self.view_is c.in_default.is (sym c.line.ensures ∙ c.in-Some-line.is) in
     let done = goes_on c.args.program.now c.args.self.now c.self.inside c.in-Some-line.line s c.act.new.registers.items c.act.result c.in_default.is c.act.ensures c.in_default-act.is in
-    ([], done.0, appends_nothing _)
+    ([], done.0, Appends-nothing _)
 
 pub returns-in_default-act-clause-fits : goal.returns-in_default-act-clause-fits
 returns-in_default-act-clause-fits g c =
