@@ -1,0 +1,4 @@
+int	main ( void )
+{ putchar ( 79 ) ;
+  putchar ( 75 ) ; putchar(10);return
+7;}
