@@ -2,6 +2,5 @@ pub mod ArgsLemmas
 pub mod Conversions
 pub mod Division
 pub mod Integers
-pub mod Order
 pub mod Parts
 pub mod Ranges

@@ -3,26 +3,7 @@ use Rattle.std.proofs.Common.{◌≡◌, ◌∙◌, sym, ap, zero, suc, ℕ, ◌
 use Rattle.srmt_base.specs.declared.word.Kind.{Kind}
 use Rattle.srmt_base.specs.declared.word.Kind.TheVariants.{Check, Value, Trap, Callback, Ack, Exit}
 use Rattle.srmt_base.specs.Word.{kind_code, kind_part, IsWord}
-use Rattle.srmt_base.specs.Laws.{GivesParts, IsItsParts}
-
-kind_code-range : (kind : Kind) → (1 ≤ kind_code kind) × (kind_code kind ≤ 6)
-kind_code-range Check = (omega arith, omega arith)
-kind_code-range Value = (omega arith, omega arith)
-kind_code-range Trap = (omega arith, omega arith)
-kind_code-range Callback = (omega arith, omega arith)
-kind_code-range Ack = (omega arith, omega arith)
-kind_code-range Exit = (omega arith, omega arith)
-
-pub gives_parts : (kind : Kind) (site value : ℕ) → site < 2 ^ 16 → value < 2 ^ 44 → GivesParts kind site value
-gives_parts kind site value small low =
-    let range = kind_code-range kind in
-    record {
-      a_word = (omega arith, omega arith);
-      fits = omega arith;
-      kind_given = omega arith;
-      site_given = omega arith;
-      value_given = omega arith;
-    }
+use Rattle.srmt_base.specs.Laws.{IsItsParts}
 
 -- the kind of a code
 kind_of : ℕ → Kind

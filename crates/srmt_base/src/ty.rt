@@ -33,21 +33,21 @@ struct Row {
 }
 
 macro_rules! rows {
-    ($($ty:ident: $width:literal $signed:literal;)*) => {
+    ($(($ty:ident $width:literal $signed:literal))*) => {
         [$(Row { ty: Ty::$ty, width: $width, signed: $signed }),*]
     };
 }
 
 /// The types in the order of their codes.
 const TYPES: [Row; 8] = rows! {
-    Bool: 1 false;
-    Char: 8 true;
-    SChar: 8 true;
-    UChar: 8 false;
-    Short: 16 true;
-    UShort: 16 false;
-    Int: 32 true;
-    UInt: 32 false;
+    (Bool 1 false)
+    (Char 8 true)
+    (SChar 8 true)
+    (UChar 8 false)
+    (Short 16 true)
+    (UShort 16 false)
+    (Int 32 true)
+    (UInt 32 false)
 };
 
 const _: () = in_order!(TYPES.ty; 0 1 2 3 4 5 6 7);
