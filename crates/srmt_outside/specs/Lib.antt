@@ -1,4 +1,5 @@
 pub mod Count
+pub mod FileFault
 pub mod Files
 pub mod MemFiles
 pub mod MemOutlet

@@ -1,4 +1,5 @@
-ghost use Rattle.std.specs.Prelude.{◌≡◌};
+ghost use Rattle.std.specs.Prelude.{◌≡◌, Some};
+ghost use Rattle.srmt_outside.specs.FileFault.{text_of};
 ghost use Rattle.srmt_outside.specs.declared.file_fault.FileFault.TheVariants.{Memory};
 
 use std::alloc::{AllocError, AllocFailed};
@@ -17,6 +18,8 @@ pub enum FileFault {
 }
 
 impl fmt::Display for FileFault {
+    ghost output = { λ fault. Some (text_of fault) };
+
     fn fmt<W: fmt::Write>(&self, f: &mut fmt::Formatter<W>) -> fmt::Result {
         f.write_str(match self {
             FileFault::Failed => "the file failed",
