@@ -1,12 +1,12 @@
 -- A new object behind all others.
-use Rattle.std.proofs.Common.{ℕ, ◌+◌, ◌-◌, ◌^◌, ◌<◌, ◌≤◌, ◌≡◌, Bool, true, false, ◌||◌, List, [], ◌∷◌, ◌++◌, length, map, take, drop, replicate, Ok, Err, cond, ltb, refl, ap, sym, ◌∙◌, ◌⊎◌, ⊎_elim, arith}
+use Rattle.std.proofs.Common.{ℕ, ◌+◌, ◌-◌, ◌^◌, ◌<◌, ◌≤◌, ◌≡◌, Bool, true, false, ◌||◌, List, [], ◌∷◌, ◌++◌, length, map, take, drop, replicate, Ok, Err, cond, ltb, refl, ap, sym, subst, ◌∙◌, ◌⊎◌, ⊎_elim, arith}
 use Rattle.std.specs.Prelude.{sum_by}
-use Rattle.std.proofs.lemmas.List.{length-take, length-drop, length-append, length-replicate, drop-append-le, take-append-le, drop_at, take_all, map_push}
+use Rattle.std.proofs.lemmas.List.{length-take, length-drop, length-append, length-replicate, drop-append-le, take-append-le, drop_at, take_all, map_push, length_push}
 use Rattle.std.proofs.lemmas.List.Elements.{All-append, All-replicate}
 use Rattle.std.proofs.lemmas.List.Sums.{sum_by-cons}
 use Rattle.std.proofs.lemmas.Bool.{lt-ltb, le-ltb}
 use Rattle.srmt_base.specs.declared.trap.Trap.TheVariants.{Store}
-use Rattle.srmt_base.specs.Objects.{Object, live_cells, add_of, begun}
+use Rattle.srmt_base.specs.Objects.{Object, Objects, live_cells, add_of, begun}
 use Rattle.cell_store.specs.declared.table.Row.{Row}
 use Rattle.cell_store.specs.Flat.{object_in, AreLaid, IsFlat}
 use Rattle.cell_store.proofs.Access.{flat, laid_upwards}
@@ -96,3 +96,11 @@ flat_begun budget fresh rows cells row_capacity cell_capacity new_row_capacity n
       row_room = omega (arith, flat.row_room);
       cell_room = omega (arith, flat.cell_room);
     }
+
+-- one object more
+pub length-added : (old new : Objects) (number cells : ℕ) (read_only : Bool) → add_of old number cells read_only ≡ Ok new → length new.live ≡ length old.live + 1
+length-added old new number cells read_only e = by_test (ltb number old.fresh || ltb old.budget (live_cells old + cells)) e
+  where
+    by_test : (b : Bool) → cond b (Err Store) (Ok (begun old number cells read_only)) ≡ Ok new → length new.live ≡ length old.live + 1
+    by_test true e = cc
+    by_test false e = let is : begun old number cells read_only ≡ new = cc in subst (λ (s : Objects). length s.live ≡ length old.live + 1) is (length_push old.live _)

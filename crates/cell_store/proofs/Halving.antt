@@ -1,6 +1,8 @@
 -- The cost of a search by halving.
-use Rattle.std.proofs.Common.{ℕ, ◌+◌, ◌-◌, ◌*◌, ◌/◌, ◌^◌, ◌≤◌, ◌≡◌, max, suc, arith}
+use Rattle.std.proofs.Common.{ℕ, ◌+◌, ◌-◌, ◌*◌, ◌/◌, ◌^◌, ◌≤◌, ◌≡◌, max, suc, ⊎_elim, arith}
 use Rattle.std.proofs.Math.Nat.{mul-le-mul_left}
+use Rattle.std.proofs.Math.Pow.{pow_mono}
+use Rattle.std.proofs.lemmas.Bool.{cases_lt}
 
 -- one step more: twice as many
 twice : (s : ℕ) → 2 ^ suc s ≡ 2 * 2 ^ s
@@ -23,3 +25,10 @@ pub halved_once : (s t i w b : ℕ) → t ≡ s + 1 → i ≤ s → 1 ≤ w → 
 halved_once s t i w b step since some cost =
     let h = halved s t i w 0 b step since some (omega arith) cost in
     omega (arith, h)
+
+-- what the cost comes to with 1,000 objects
+pub at_most_ten : (s n : ℕ) → n ≡ 1000 → 2 ^ s ≤ 2 * n + 1 → s ≤ 10
+at_most_ten s n long cost = ⊎_elim {C = s ≤ 10}
+    (λ more. absurd (omega (arith, pow_mono {i = 11} {j = s} (omega arith))))
+    (λ less. less)
+    (cases_lt 10 s)

@@ -5,24 +5,24 @@ use Rattle.std.proofs.lemmas.List.Sums.{sum_by_more_le, sum_by_push, sum_by-set,
 use Rattle.std.proofs.lemmas.Bool.{ne_eqb, eq-eqb}
 use Rattle.std.specs.Prelude.{filter, find, remove, ◌==◌, not}
 use Rattle.srmt_base.specs.Objects.{Object, object_part, offset_part, live_cells, access_of, if_passed, written, written_in, end_of}
-use Rattle.cell_store.specs.Plain.{PlainObject, object_of, plain, found_in, with_cell, AreRising, IsPlain, IsFoundAt, IsReached}
+use Rattle.cell_store.specs.Plain.{PlainObject, as_object, plain, found_in, with_cell, AreRising, IsPlain, IsFoundAt, IsReached}
 
 -- the first of a number
-pub first_found : (objects : List PlainObject) (number at : ℕ) (d : PlainObject) → at < length objects → found_in (drop at objects) number ≡ found_in objects number → (get_or objects at d).number ≡ number → found_in objects number ≡ Some (object_of (get_or objects at d))
+pub first_found : (objects : List PlainObject) (number at : ℕ) (d : PlainObject) → at < length objects → found_in (drop at objects) number ≡ found_in objects number → (get_or objects at d).number ≡ number → found_in objects number ≡ Some (as_object (get_or objects at d))
 first_found objects number at d within before is =
     let this : eqb (get_or objects at d).number number ≡ true = eq-eqb (get_or objects at d).number number is in
     sym before ∙ at_drop_more (λ os. found_in os number) objects at d within
-    ∙ ap (λ b. cond b (Some (object_of (get_or objects at d))) (found_in (drop (at + 1) objects) number)) this
+    ∙ ap (λ b. cond b (Some (as_object (get_or objects at d))) (found_in (drop (at + 1) objects) number)) this
 
 -- one that has another number
 pub passed_over : (objects : List PlainObject) (number at : ℕ) (d : PlainObject) → at < length objects → found_in (drop at objects) number ≡ found_in objects number → (get_or objects at d).number ≢ number → found_in (drop (at + 1) objects) number ≡ found_in objects number
 passed_over objects number at d within before other =
     let this : eqb (get_or objects at d).number number ≡ false = ne_eqb (get_or objects at d).number number other in
-    sym (ap (λ b. cond b (Some (object_of (get_or objects at d))) (found_in (drop (at + 1) objects) number)) this)
+    sym (ap (λ b. cond b (Some (as_object (get_or objects at d))) (found_in (drop (at + 1) objects) number)) this)
     ∙ sym (at_drop_more (λ os. found_in os number) objects at d within) ∙ before
 
-map-remove : (objects : List PlainObject) (at : ℕ) → map object_of (remove objects at) ≡ remove (map object_of objects) at
-map-remove objects at = map-append object_of (take at objects) (drop (suc at) objects) ∙ rw (take-map, drop-map) refl
+map-remove : (objects : List PlainObject) (at : ℕ) → map as_object (remove objects at) ≡ remove (map as_object objects) at
+map-remove objects at = map-append as_object (take at objects) (drop (suc at) objects) ∙ rw (take-map, drop-map) refl
 
 -- no number is below the least
 from_least : (objects : List Object) (least fresh : ℕ) → AreRising least objects fresh → (d : Object) (k : ℕ) → k < length objects → least ≤ (get_or objects k d).number
@@ -102,53 +102,53 @@ filter-none (object ∷ objects) number none = by_test (object.number == number)
 -- the cells so far and those of the next object are within all
 pub used_more : (objects : List PlainObject) (at : ℕ) (d : PlainObject) → at < length objects → live_cells (plain 0 0 (take at objects)) + length (get_or objects at d).cells.items ≤ live_cells (plain 0 0 objects)
 used_more objects at d within =
-    let h = sum_by_more_le (λ (object : Object). length object.cells) (map object_of objects) at (object_of d) (rw length-map within) in
-    rw (take-map, get_or-map object_of objects at d (object_of d) within) at h
+    let h = sum_by_more_le (λ (object : Object). length object.cells) (map as_object objects) at (as_object d) (rw length-map within) in
+    rw (take-map, get_or-map as_object objects at d (as_object d) within) at h
 
 -- what a plain store keeps, after a new object, a write and an end
 pub plain_begun : (budget fresh number : ℕ) (objects : List PlainObject) (object : PlainObject) → IsPlain (plain budget fresh objects) → object.number ≡ number → fresh ≤ number → live_cells (plain 0 0 objects) + length object.cells.items ≤ budget → IsPlain (plain budget (number + 1) (objects ++ object ∷ []))
 plain_begun budget fresh number objects object kept is above fits = record {
-  rising = rw (map_push, ← is) (rising_push (map object_of objects) 0 fresh (object_of object) kept.rising (omega arith));
-  few = rw (map_push, sum_by_push (λ (object : Object). length object.cells) (map object_of objects) (object_of object)) fits;
+  rising = rw (map_push, ← is) (rising_push (map as_object objects) 0 fresh (as_object object) kept.rising (omega arith));
+  few = rw (map_push, sum_by_push (λ (object : Object). length object.cells) (map as_object objects) (as_object object)) fits;
 }
 
-pub plain_written : (budget fresh at offset value : ℕ) (objects : List PlainObject) (old new : PlainObject) → IsPlain (plain budget fresh objects) → at < length objects → old ≡ get_or objects at old → object_of new ≡ with_cell (object_of old) offset value → IsPlain (plain budget fresh (set objects at new))
+pub plain_written : (budget fresh at offset value : ℕ) (objects : List PlainObject) (old new : PlainObject) → IsPlain (plain budget fresh objects) → at < length objects → old ≡ get_or objects at old → as_object new ≡ with_cell (as_object old) offset value → IsPlain (plain budget fresh (set objects at new))
 plain_written budget fresh at offset value objects old new kept within is write =
-    let within' : at < length (map object_of objects) = rw length-map within in
-    let before : get_or (map object_of objects) at (object_of old) ≡ object_of old = get_or-map object_of objects at old (object_of old) within ∙ ap object_of (sym is) in
-    let after : map object_of (set objects at new) ≡ set (map object_of objects) at (with_cell (object_of old) offset value) = map-set object_of objects at new ∙ ap (set (map object_of objects) at) write in
+    let within' : at < length (map as_object objects) = rw length-map within in
+    let before : get_or (map as_object objects) at (as_object old) ≡ as_object old = get_or-map as_object objects at old (as_object old) within ∙ ap as_object (sym is) in
+    let after : map as_object (set objects at new) ≡ set (map as_object objects) at (with_cell (as_object old) offset value) = map-set as_object objects at new ∙ ap (set (map as_object objects) at) write in
     record {
-      rising = rw after (rising_set (map object_of objects) 0 fresh at (with_cell (object_of old) offset value) (object_of old) kept.rising within' (rw before refl));
-      few = rw after (omega (arith, kept.few, sum_by-set (λ (object : Object). length object.cells) (map object_of objects) at (with_cell (object_of old) offset value) (object_of old) within', ap (λ (object : Object). length object.cells) before, length-set (object_of old).cells offset value));
+      rising = rw after (rising_set (map as_object objects) 0 fresh at (with_cell (as_object old) offset value) (as_object old) kept.rising within' (rw before refl));
+      few = rw after (omega (arith, kept.few, sum_by-set (λ (object : Object). length object.cells) (map as_object objects) at (with_cell (as_object old) offset value) (as_object old) within', ap (λ (object : Object). length object.cells) before, length-set (as_object old).cells offset value));
     }
 
-pub put_listed : (writes : Bool) (budget fresh at offset pointer value : ℕ) (objects : List PlainObject) (old new : PlainObject) → IsPlain (plain budget fresh objects) → IsReached writes objects pointer at → old ≡ get_or objects at old → offset ≡ offset_part pointer → object_of new ≡ with_cell (object_of old) offset value → if_passed (λ _. written (plain budget fresh objects) pointer value) (access_of writes (plain budget fresh objects) pointer) ≡ Ok (plain budget fresh (set objects at new))
+pub put_listed : (writes : Bool) (budget fresh at offset pointer value : ℕ) (objects : List PlainObject) (old new : PlainObject) → IsPlain (plain budget fresh objects) → IsReached writes objects pointer at → old ≡ get_or objects at old → offset ≡ offset_part pointer → as_object new ≡ with_cell (as_object old) offset value → if_passed (λ _. written (plain budget fresh objects) pointer value) (access_of writes (plain budget fresh objects) pointer) ≡ Ok (plain budget fresh (set objects at new))
 put_listed writes budget fresh at offset pointer value objects old new kept reached is part write =
-    let within' : at < length (map object_of objects) = rw length-map reached.within in
-    let before : get_or (map object_of objects) at (object_of old) ≡ object_of old = get_or-map object_of objects at old (object_of old) reached.within ∙ ap object_of (sym is) in
-    let after : map object_of (set objects at new) ≡ set (map object_of objects) at (with_cell (object_of old) (offset_part pointer) value) =
-    map-set object_of objects at new ∙ ap (set (map object_of objects) at) (write ∙ ap (λ (n : ℕ). with_cell (object_of old) n value) part) in
-    let number : (get_or (map object_of objects) at (object_of old)).number ≡ object_part pointer = rw before (ap (λ (o : PlainObject). o.number) is ∙ reached.numbered old) in
-    let all : map (written_in pointer value) (map object_of objects) ≡ set (map object_of objects) at (with_cell (object_of old) (offset_part pointer) value) =
-    written-set (map object_of objects) 0 fresh at pointer value (object_of old) kept.rising within' number ∙ rw before refl in
+    let within' : at < length (map as_object objects) = rw length-map reached.within in
+    let before : get_or (map as_object objects) at (as_object old) ≡ as_object old = get_or-map as_object objects at old (as_object old) reached.within ∙ ap as_object (sym is) in
+    let after : map as_object (set objects at new) ≡ set (map as_object objects) at (with_cell (as_object old) (offset_part pointer) value) =
+    map-set as_object objects at new ∙ ap (set (map as_object objects) at) (write ∙ ap (λ (n : ℕ). with_cell (as_object old) n value) part) in
+    let number : (get_or (map as_object objects) at (as_object old)).number ≡ object_part pointer = rw before (ap (λ (o : PlainObject). o.number) is ∙ reached.numbered old) in
+    let all : map (written_in pointer value) (map as_object objects) ≡ set (map as_object objects) at (with_cell (as_object old) (offset_part pointer) value) =
+    written-set (map as_object objects) 0 fresh at pointer value (as_object old) kept.rising within' number ∙ rw before refl in
     ap (if_passed (λ _. written (plain budget fresh objects) pointer value)) (reached.passes old)
     ∙ ap (λ (live : List Object). Ok (record { budget = budget; fresh = fresh; live = live })) (all ∙ sym after)
 
 pub plain_ended : (budget fresh at : ℕ) (objects rest : List PlainObject) (d : PlainObject) → IsPlain (plain budget fresh objects) → at < length objects → rest ≡ remove objects at → IsPlain (plain budget fresh rest)
 plain_ended budget fresh at objects rest d kept within is =
-    let removed : map object_of rest ≡ remove (map object_of objects) at = ap (map object_of) is ∙ map-remove objects at in
+    let removed : map as_object rest ≡ remove (map as_object objects) at = ap (map as_object) is ∙ map-remove objects at in
     record {
-      rising = rw removed (rising_remove (map object_of objects) 0 fresh at kept.rising (rw length-map within));
-      few = rw removed (omega (arith, kept.few, sum_by-remove (λ (object : Object). length object.cells) (map object_of objects) at (object_of d) (rw length-map within)));
+      rising = rw removed (rising_remove (map as_object objects) 0 fresh at kept.rising (rw length-map within));
+      few = rw removed (omega (arith, kept.few, sum_by-remove (λ (object : Object). length object.cells) (map as_object objects) at (as_object d) (rw length-map within)));
     }
 
 pub end_listed : (budget fresh at number : ℕ) (objects rest : List PlainObject) (d : PlainObject) → IsPlain (plain budget fresh objects) → IsFoundAt objects number at → rest ≡ remove objects at → end_of (plain budget fresh objects) number ≡ plain budget fresh rest
 end_listed budget fresh at number objects rest d kept found is =
-    let number' : (get_or (map object_of objects) at (object_of d)).number ≡ number = rw (get_or-map object_of objects at d (object_of d) found.within) (found.numbered d) in
-    let removed : map object_of rest ≡ remove (map object_of objects) at = ap (map object_of) is ∙ map-remove objects at in
+    let number' : (get_or (map as_object objects) at (as_object d)).number ≡ number = rw (get_or-map as_object objects at d (as_object d) found.within) (found.numbered d) in
+    let removed : map as_object rest ≡ remove (map as_object objects) at = ap (map as_object) is ∙ map-remove objects at in
     ap (λ (live : List Object). record { budget = budget; fresh = fresh; live = live })
-    (filter-remove (map object_of objects) 0 fresh at number (object_of d) kept.rising (rw length-map found.within) number' ∙ sym removed)
+    (filter-remove (map as_object objects) 0 fresh at number (as_object d) kept.rising (rw length-map found.within) number' ∙ sym removed)
 
 pub end_unlisted : (budget fresh number : ℕ) (objects : List PlainObject) → found_in objects number ≡ None → end_of (plain budget fresh objects) number ≡ plain budget fresh objects
 end_unlisted budget fresh number objects none =
-    ap (λ (live : List Object). record { budget = budget; fresh = fresh; live = live }) (filter-none (map object_of objects) number none)
+    ap (λ (live : List Object). record { budget = budget; fresh = fresh; live = live }) (filter-none (map as_object objects) number none)

@@ -3,12 +3,12 @@ use Rattle.std.specs.Prelude.{◌≡◌, ℕ, ◌+◌, ◌<◌, ◌≤◌, Bool,
 use Rattle.srmt_base.specs.Objects.{Object, Objects, object_part, offset_part, live_at, live_cells, access_of}
 pub use Rattle.cell_store.specs.declared.plain.PlainObject.{PlainObject}
 
-abbrev pub object_of : PlainObject → Object
-object_of object = record { number = object.number; cells = object.cells.items; read_only = object.read_only }
+abbrev pub as_object : PlainObject → Object
+as_object object = record { number = object.number; cells = object.cells.items; read_only = object.read_only }
 
 -- a list of objects, under a budget and the least number of a new one
 abbrev pub plain : ℕ → ℕ → List PlainObject → Objects
-plain budget fresh objects = record { budget = budget; fresh = fresh; live = map object_of objects }
+plain budget fresh objects = record { budget = budget; fresh = fresh; live = map as_object objects }
 
 -- the object of a number, if it lives
 abbrev pub found_in : List PlainObject → ℕ → Option Object
@@ -17,13 +17,13 @@ found_in objects number = live_at (plain 0 0 objects) number
 -- it stands at a place
 pub record IsFoundAt (objects : List PlainObject) (number place : ℕ) : Type 0 where
   pub within : place < length objects
-  pub is : (d : PlainObject) → found_in objects number ≡ Some (object_of (slice_index_or objects place d))
+  pub is : (d : PlainObject) → found_in objects number ≡ Some (as_object (slice_index_or objects place d))
   pub numbered : (d : PlainObject) → (slice_index_or objects place d).number ≡ number
 
 -- an access passes its tests at the object of a place
 pub record IsReached (writes : Bool) (objects : List PlainObject) (pointer place : ℕ) : Type 0 where
   pub within : place < length objects
-  pub passes : (d : PlainObject) → access_of writes (plain 0 0 objects) pointer ≡ Ok (object_of (slice_index_or objects place d))
+  pub passes : (d : PlainObject) → access_of writes (plain 0 0 objects) pointer ≡ Ok (as_object (slice_index_or objects place d))
   pub numbered : (d : PlainObject) → (slice_index_or objects place d).number ≡ object_part pointer
   pub inside : (d : PlainObject) → offset_part pointer < length (slice_index_or objects place d).cells.items
 

@@ -14,3 +14,6 @@ mod table;
 pub use plain::PlainStore;
 pub use steps::Steps;
 pub use store::Store;
+
+#[cfg(test)]
+mod tests;

@@ -36,13 +36,11 @@ impl Store {
         requires { cells ≤ 1048576 }
         ensures { IfOk result (λ store. store ≡ start_of cells first) }
     {
-        let rows = Vec::with_capacity(alloc, cells as usize)?;
-        let row = Vec::with_capacity(alloc, cells as usize)?;
         Ok(Store {
             budget: cells,
             fresh: u64::from(first),
-            rows,
-            cells: row,
+            rows: Vec::with_capacity(alloc, cells as usize)?,
+            cells: Vec::with_capacity(alloc, cells as usize)?,
         })
     }
 
