@@ -63,7 +63,7 @@ loaded_tail step before found after =
 abbrev pub settled : Step (Unit {0}) → Sat → ℕ → Sat → Type 0
 settled step before found after = (after ≡ before) × Agree before.0.sends before.0.takes
 
--- The first seat is split: it keeps the sender's part, and a new seat has the receiver's.
+-- The first seat is split: it keeps the sender's part, and a new seat has the receiver's. The part that a seat lacks is as new, and nobody looks at it.
 
 abbrev pub sender_part : View → View
 sender_part v = record { sends = v.sends; takes = new_receiver; is_sender = true; is_receiver = false }

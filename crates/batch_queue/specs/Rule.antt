@@ -11,6 +11,7 @@ use Rattle.batch_queue.specs.declared.view.SendView.{SendView}
 use Rattle.batch_queue.specs.declared.view.TakeView.{TakeView}
 use Rattle.batch_queue.specs.declared.view.View.{View}
 
+-- a mark as a bit
 abbrev pub bit_of : Bool → ℕ
 bit_of false = 0
 bit_of true = 1
@@ -48,6 +49,7 @@ pub record Dropping (x : SendView) : Type 0 where
   pub none_before_gone : x.known_gone ≡ false → x.dropped ≡ []
   pub none_after_closing : x.closed ≡ true → x.knew_gone ≡ false → x.dropped ≡ []
 
+-- the words of the table, what the sender knows (x) and what the receiver knows (y)
 pub record Holds (cap : ℕ) (words : List ℕ) (x : SendView) (y : TakeView) : Type 0 where
   -- the tail has what is published and the closed bit, the head what is released and the gone bit
   pub index_words : (slice_index words 0 ≡ index_word x.published x.closed) × (slice_index words 1 ≡ index_word y.released y.gone)

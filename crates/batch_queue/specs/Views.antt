@@ -22,13 +22,15 @@ free_places cap x = x.known_released + cap - length x.sent
 abbrev pub IsFull : ℕ → SendView → Type 0
 IsFull cap x = length x.sent - x.known_released ≡ cap
 
+-- one word more is sent
 abbrev pub pushed : SendView → ℕ → SendView
 pushed x word = record x { sent = x.sent ++ word ∷ [] }
 
+-- all that was sent is published
 abbrev pub published_all : SendView → SendView
 published_all x = record x { published = length x.sent }
 
--- all is published as soon as `batch` words are not
+-- all is published once `batch` words are not, and before that it stays as it is
 abbrev pub published_at : ℕ → SendView → SendView
 published_at batch x = record x { published = if nat_lt (unpublished x) batch then x.published else length x.sent }
 
@@ -36,7 +38,7 @@ published_at batch x = record x { published = if nat_lt (unpublished x) batch th
 abbrev pub closed_now : SendView → SendView
 closed_now x = record x { published = length x.sent; closed = true; knew_gone = x.known_gone }
 
--- a load of the head has found this
+-- a load of the head has found this; it counts as a look at the receiver
 abbrev pub saw_head : SendView → ℕ → Bool → SendView
 saw_head x released gone = record x { known_released = released; known_gone = gone; looks = x.looks + 1 }
 
@@ -46,7 +48,7 @@ pub record HeadGrows (x : SendView) (released : ℕ) (gone : Bool) : Type 0 wher
   pub no_more : released ≤ x.published
   pub stays_gone : x.known_gone ≡ true → gone ≡ true
 
--- a word that nobody takes any more
+-- one word more is dropped
 abbrev pub discarded : SendView → ℕ → SendView
 discarded x word = record x { dropped = x.dropped ++ word ∷ [] }
 
@@ -64,13 +66,15 @@ unreleased y = length y.received - y.released
 abbrev pub IsEmpty : TakeView → Type 0
 IsEmpty y = length y.received ≡ y.known_published
 
+-- one word more is received
 abbrev pub took : TakeView → ℕ → TakeView
 took y word = record y { received = y.received ++ word ∷ [] }
 
+-- all places that were taken from are released
 abbrev pub released_all : TakeView → TakeView
 released_all y = record y { released = length y.received }
 
--- all is released as soon as `batch` places are not
+-- all is released once `batch` places are not, and before that it stays as it is
 abbrev pub released_at : ℕ → TakeView → TakeView
 released_at batch y = record y { released = if nat_lt (unreleased y) batch then y.released else length y.received }
 
@@ -78,11 +82,11 @@ released_at batch y = record y { released = if nat_lt (unreleased y) batch then 
 abbrev pub gone_now : TakeView → TakeView
 gone_now y = record y { released = length y.received; gone = true; knew_closed = y.known_closed }
 
--- a load of the tail has found this
+-- a load of the tail has found this; it counts as a look at the sender
 abbrev pub saw_tail : TakeView → ℕ → Bool → TakeView
 saw_tail y published closed = record y { known_published = published; known_closed = closed; looks = y.looks + 1 }
 
--- the sender has published no fewer words than before, and once closed it stays closed
+-- the sender has published no fewer words than before; and once closed it stays closed and publishes no more
 pub record TailGrows (y : TakeView) (published : ℕ) (closed : Bool) : Type 0 where
   pub no_fewer : y.known_published ≤ published
   pub stays_closed : y.known_closed ≡ true → closed ≡ true

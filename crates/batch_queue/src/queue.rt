@@ -9,7 +9,8 @@ use atomic_table::Table;
 use std::alloc::{AllocError, Global};
 use std::sync::Arc;
 
-/// A queue of `CAP` places, whose ends publish and release in batches of `BATCH`.
+/// A queue of `CAP` places, whose ends publish and release in batches of `BATCH`. The only error is
+/// want of memory, and no other call of the crate takes any.
 pub fn new<const CAP: usize, const BATCH: usize>(
     alloc: Global,
 ) -> Result<(Sender<CAP, BATCH>, Receiver<CAP, BATCH>), AllocError>
@@ -42,7 +43,8 @@ pub fn new<const CAP: usize, const BATCH: usize>(
     Ok((sender, receiver))
 }
 
-/// How many words were sent and how many received, told by the two ends of one queue. Dropped words count in neither.
+/// How many words were sent and how many received, told by the two ends of one queue, whose lists
+/// then are known to fit. Dropped words count in neither.
 pub fn rejoin<const CAP: usize, const BATCH: usize>(
     sender: Sender<CAP, BATCH>,
     receiver: Receiver<CAP, BATCH>,

@@ -18,9 +18,14 @@ pub struct Receiver<const CAP: usize, const BATCH: usize> {
     pub(crate) published: u64,
     pub(crate) closed: bool,
     ghost sizes: { (1 ≤ BATCH) × (BATCH ≤ CAP) × (CAP ≤ 65536) },
-    ghost at_table: { (seat.table_id ≡ (arc_value table).shared.table_id) × ((arc_value table).shared.key ≡ CAP) × ((arc_value table).shared.table_id.words ≡ CAP + 2) },
+    ghost at_table: { (seat.table_id ≡ (arc_value table).shared.table_id)
+        × ((arc_value table).shared.key ≡ CAP)
+        × ((arc_value table).shared.table_id.words ≡ CAP + 2) },
     ghost seated: { (seat.me.0.is_receiver ≡ true) × (seat.me.1 ≡ []) },
-    ghost counted: { (received ≡ length seat.me.0.takes.received) × (released ≡ seat.me.0.takes.released) × (published ≡ seat.me.0.takes.known_published) × (closed ≡ seat.me.0.takes.known_closed) },
+    ghost counted: { (received ≡ length seat.me.0.takes.received)
+        × (released ≡ seat.me.0.takes.released)
+        × (published ≡ seat.me.0.takes.known_published)
+        × (closed ≡ seat.me.0.takes.known_closed) },
     ghost in_order: { (released ≤ received) × (received ≤ published) × (published < 2 ^ 63) },
 }
 
@@ -29,12 +34,14 @@ impl<const CAP: usize, const BATCH: usize> Receiver<CAP, BATCH> {
     ghost use Rattle.batch_queue.specs.Views.{IsEmpty, took, released_all, released_at, gone_now, saw_tail, TailGrows};
     ghost use Rattle.batch_queue.specs.Ends.{taking, takes_from};
 
-    /// Takes the next word that is known to be published, and releases once `BATCH` places are not released.
+    /// Takes the next word that is known to be published, and releases once `BATCH` places are not
+    /// released. It does not look at the sender: where no word is known, it says so.
     pub fn try_take(&mut self) -> Option<Word>
         requires { (taking self.old).gone ≡ false }
         ensures empty { IsNone result ↔ IsEmpty (taking self.old) }
         ensures none { IfNone result (taking self.new ≡ taking self.old) }
-        ensures taken { IfSome result (λ word. taking self.new ≡ released_at BATCH (took (taking self.old) word)) }
+        ensures taken { IfSome result
+            (λ word. taking self.new ≡ released_at BATCH (took (taking self.old) word)) }
         ensures queue { takes_from self.new ≡ takes_from self.old }
     {
         if self.received == self.published {
@@ -59,11 +66,14 @@ impl<const CAP: usize, const BATCH: usize> Receiver<CAP, BATCH> {
         self.released = self.received;
     }
 
-    /// Loads the tail once, and keeps what it found.
+    /// Loads the tail once, and keeps what it found. All is released before, so that the two ends
+    /// never wait for each other.
     pub fn reload(&mut self)
         requires { (taking self.old).released ≡ length (taking self.old).received }
-        ensures looked { taking self.new ≡ saw_tail (taking self.old) (taking self.new).known_published (taking self.new).known_closed }
-        ensures found { TailGrows (taking self.old) (taking self.new).known_published (taking self.new).known_closed }
+        ensures looked { let now = taking self.new in
+            now ≡ saw_tail (taking self.old) now.known_published now.known_closed }
+        ensures found { let now = taking self.new in
+            TailGrows (taking self.old) now.known_published now.known_closed }
         ensures queue { takes_from self.new ≡ takes_from self.old }
     {
         self.look();
@@ -90,8 +100,10 @@ impl<const CAP: usize, const BATCH: usize> Receiver<CAP, BATCH> {
 
     // Loads the tail, whatever is released.
     fn look(&mut self)
-        ensures looked { taking self.new ≡ saw_tail (taking self.old) (taking self.new).known_published (taking self.new).known_closed }
-        ensures found { TailGrows (taking self.old) (taking self.new).known_published (taking self.new).known_closed }
+        ensures looked { let now = taking self.new in
+            now ≡ saw_tail (taking self.old) now.known_published now.known_closed }
+        ensures found { let now = taking self.new in
+            TailGrows (taking self.old) now.known_published now.known_closed }
         ensures queue { takes_from self.new ≡ takes_from self.old }
     {
         let tail = self.table.shared.load::<LoadTail>(&mut self.seat, TAIL);

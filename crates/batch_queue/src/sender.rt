@@ -30,10 +30,17 @@ pub struct Sender<const CAP: usize, const BATCH: usize> {
     pub(crate) gone: bool,
     pub(crate) dropped: u64,
     ghost sizes: { (1 ≤ BATCH) × (BATCH ≤ CAP) × (CAP ≤ 65536) },
-    ghost at_table: { (seat.table_id ≡ (arc_value table).shared.table_id) × ((arc_value table).shared.key ≡ CAP) × ((arc_value table).shared.table_id.words ≡ CAP + 2) },
+    ghost at_table: { (seat.table_id ≡ (arc_value table).shared.table_id)
+        × ((arc_value table).shared.key ≡ CAP)
+        × ((arc_value table).shared.table_id.words ≡ CAP + 2) },
     ghost seated: { (seat.me.0.is_sender ≡ true) × (seat.me.1 ≡ []) },
-    ghost counted: { (sent ≡ length seat.me.0.sends.sent) × (published ≡ seat.me.0.sends.published) × (released ≡ seat.me.0.sends.known_released) × (gone ≡ seat.me.0.sends.known_gone) × (dropped ≡ length seat.me.0.sends.dropped) },
-    ghost in_order: { (released ≤ published) × (published ≤ sent) × (sent ≤ released + CAP) × (sent < 2 ^ 63) },
+    ghost counted: { (sent ≡ length seat.me.0.sends.sent)
+        × (published ≡ seat.me.0.sends.published)
+        × (released ≡ seat.me.0.sends.known_released)
+        × (gone ≡ seat.me.0.sends.known_gone)
+        × (dropped ≡ length seat.me.0.sends.dropped) },
+    ghost in_order: { (released ≤ published) × (published ≤ sent) × (sent ≤ released + CAP) },
+    ghost countable: { sent < 2 ^ 63 },
 }
 
 impl<const CAP: usize, const BATCH: usize> Sender<CAP, BATCH> {
@@ -41,13 +48,15 @@ impl<const CAP: usize, const BATCH: usize> Sender<CAP, BATCH> {
     ghost use Rattle.batch_queue.specs.Views.{free_places, IsFull, pushed, published_all, published_at, closed_now, saw_head, HeadGrows, discarded};
     ghost use Rattle.batch_queue.specs.Ends.{sending, sends_to};
 
-    /// Puts a word into the ring, and publishes once `BATCH` words are not published.
+    /// Puts a word into the ring, and publishes once `BATCH` words are not published. It does not
+    /// look at the receiver: where the ring is full by what is known, it says so.
     pub fn try_push(&mut self, word: Word) -> Pushed
         requires still_open { (sending self.old).closed ≡ false }
         requires countable { length (sending self.old).sent < 2 ^ 63 - 1 }
         ensures full { (result ≡ Pushed.Full) ↔ IsFull CAP (sending self.old) }
         ensures refused { result ≡ Pushed.Full → sending self.new ≡ sending self.old }
-        ensures sent { result ≡ Pushed.Pushed → sending self.new ≡ published_at BATCH (pushed (sending self.old) word) }
+        ensures sent { result ≡ Pushed.Pushed
+            → sending self.new ≡ published_at BATCH (pushed (sending self.old) word) }
         ensures queue { sends_to self.new ≡ sends_to self.old }
     {
         if self.known_free() == 0 {
@@ -72,11 +81,14 @@ impl<const CAP: usize, const BATCH: usize> Sender<CAP, BATCH> {
         self.published = self.sent;
     }
 
-    /// Loads the head once, and keeps what it found.
+    /// Loads the head once, and keeps what it found. All is published before, so that the two ends
+    /// never wait for each other.
     pub fn reload(&mut self)
         requires { (sending self.old).published ≡ length (sending self.old).sent }
-        ensures looked { sending self.new ≡ saw_head (sending self.old) (sending self.new).known_released (sending self.new).known_gone }
-        ensures found { HeadGrows (sending self.old) (sending self.new).known_released (sending self.new).known_gone }
+        ensures looked { let now = sending self.new in
+            now ≡ saw_head (sending self.old) now.known_released now.known_gone }
+        ensures found { let now = sending self.new in
+            HeadGrows (sending self.old) now.known_released now.known_gone }
         ensures queue { sends_to self.new ≡ sends_to self.old }
     {
         self.look();
@@ -91,12 +103,13 @@ impl<const CAP: usize, const BATCH: usize> Sender<CAP, BATCH> {
 
     /// How many words fit by what is known: 0 to `CAP`.
     pub fn known_free(&self) -> u64
-        ensures { result ≡ free_places CAP (sending self.now) }
+        ensures exact { result ≡ free_places CAP (sending self.now) }
+        ensures within { result ≤ CAP }
     {
         self.released + CAP as u64 - self.sent
     }
 
-    /// Drops a word that nobody will take, and counts it.
+    /// Drops a word that nobody will take, and counts it: for a caller that goes on as if it sent.
     pub fn discard(&mut self, word: Word)
         requires gone { (sending self.old).known_gone ≡ true }
         requires still_open { (sending self.old).closed ≡ false }
@@ -133,8 +146,10 @@ impl<const CAP: usize, const BATCH: usize> Sender<CAP, BATCH> {
 
     // Loads the head, whatever is published.
     fn look(&mut self)
-        ensures looked { sending self.new ≡ saw_head (sending self.old) (sending self.new).known_released (sending self.new).known_gone }
-        ensures found { HeadGrows (sending self.old) (sending self.new).known_released (sending self.new).known_gone }
+        ensures looked { let now = sending self.new in
+            now ≡ saw_head (sending self.old) now.known_released now.known_gone }
+        ensures found { let now = sending self.new in
+            HeadGrows (sending self.old) now.known_released now.known_gone }
         ensures queue { sends_to self.new ≡ sends_to self.old }
     {
         let head = self.table.shared.load::<LoadHead>(&mut self.seat, HEAD);

@@ -28,7 +28,7 @@ fn push<const CAP: usize, const BATCH: usize>(sender: &mut Sender<CAP, BATCH>, v
     sender.try_push(word(value))
 }
 
-// Whether all words from `start` to below `end` went in, with a look at the head where the ring is full.
+// Whether all words from `start` to below `end` went in.
 fn push_range<const CAP: usize, const BATCH: usize>(
     sender: &mut Sender<CAP, BATCH>,
     start: u64,
@@ -135,7 +135,8 @@ fn rounds<const CAP: usize, const BATCH: usize>(
     ensures still_open { (sending sender.new).closed ≡ false }
     ensures grown { length (sending sender.new).sent ≤ 8 * count }
     ensures still_there { (taking receiver.new).gone ≡ false }
-    ensures queue { (sends_to sender.new ≡ sends_to sender.old) × (takes_from receiver.new ≡ takes_from receiver.old) }
+    ensures same_sender { sends_to sender.new ≡ sends_to sender.old }
+    ensures same_receiver { takes_from receiver.new ≡ takes_from receiver.old }
 {
     for round in 0..count {
         let start = 8 * round;
@@ -249,9 +250,21 @@ fn receive<R: Wait>(rt: &R, mut receiver: Receiver<64, 16>, count: u64) -> (Rece
     (receiver, in_order)
 }
 
+fn may_move<T: Send>(_end: &T) {}
+
+// Each end may move to another thread, whatever its sizes.
+fn ends_may_move<const CAP: usize, const BATCH: usize>(
+    sender: &Sender<CAP, BATCH>,
+    receiver: &Receiver<CAP, BATCH>,
+) {
+    may_move(sender);
+    may_move(receiver);
+}
+
 #[test]
 fn two_threads_hand_over_a_million_words(rt: HostRuntime) -> Result<(), Fail> {
     let (sender, receiver) = new::<64, 16>(rt.alloc())?;
+    ends_may_move(&sender, &receiver);
     let (sender, (receiver, in_order)) = thread::join(
         &rt,
         move ||

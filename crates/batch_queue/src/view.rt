@@ -39,7 +39,8 @@ pub struct TakeView {
     pub looks: u64,
 }
 
-/// What a seat at the queue's table knows: one of the two parts, before they part and after they are joined both.
+/// What a seat at the queue's table knows: both parts until the ends part and once they are joined
+/// again, and one of them in between.
 pub struct View {
     pub sends: SendView,
     pub takes: TakeView,
