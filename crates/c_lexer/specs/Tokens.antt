@@ -3,7 +3,7 @@
 -- A source is cut into pieces from the left: blanks, comments, the two `#include` lines, and tokens. What is a
 -- piece is said by sets of spellings; a piece is the longest front of the remaining bytes in its set, a comment
 -- the shortest. A source with no such cut has exactly one fault, at its first place that has no piece.
-use Rattle.std.specs.Prelude.{◌≡◌, ◌≢◌, ℕ, suc, zero, ◌+◌, ◌-◌, ◌*◌, ◌^◌, ◌<◌, ◌≤◌, ◌⊎◌, Bool, true, false, not, ◌&&◌, ◌||◌, if◌then◌else◌, ◌==◌, nat_eq, nat_lt, nat_le, IsTrue, IsSome, List, [], ◌∷◌, ◌++◌, length, take, drop, fold, count_by, position, slice_index, Option, Some, None, option_map, option_and_then, codes, bytes_eq}
+use Rattle.std.specs.Prelude.{◌≡◌, ℕ, suc, zero, ◌+◌, ◌-◌, ◌*◌, ◌^◌, ◌<◌, ◌≤◌, ◌⊎◌, Bool, true, false, not, ◌&&◌, ◌||◌, if◌then◌else◌, ◌==◌, nat_eq, nat_lt, IsTrue, IsSome, List, [], ◌∷◌, ◌++◌, length, take, drop, fold, count_by, position, slice_index, Option, Some, None, option_map, option_and_then, codes, bytes_eq}
 use Rattle.std.specs.Char.{is_ascii_alphabetic, is_ascii_alphanumeric, is_ascii_digit, is_digit, digit_value}
 use Rattle.std.specs.Int.{is_in_range}
 use Rattle.std.specs.List.{list_all, prefix_len, starts_with, concat, AllByRecursion}

@@ -11,5 +11,4 @@ pub fn one_reading()
     ensures fault { (source : Bytes) (fault other : LexRefusal) → Refuses source fault → Refuses source other → fault ≡ other }
     ensures apart { (source : Bytes) (list : List Token) (fault : LexRefusal) → Lexes source list → Refuses source fault → ⊥ }
     ensures some { (source : Bytes) → ((list : List Token) × Lexes source list) ⊎ ((fault : LexRefusal) × Refuses source fault) }
-{
-}
+{}
