@@ -208,14 +208,17 @@ block_again first at word rest w =
     ap (front first at) whole ∙ front_block first at bytes
     ∙ ap (λ o. ok_or (option_map (λ end. (BlockComment, end)) o) (OpenComment at)) (comment_found word rest bytes w (sym whole))
 
+include_at : (first : Bool) (at : ℕ) (word rest bytes : Bytes) → first ≡ true → IsInclude word → EndsLine rest → (35 ∷ bytes) ≡ word ++ rest → front first at (35 ∷ bytes) ≡ Ok (Include, length word)
+include_at first at word rest bytes f i ends whole =
+    let len : length (35 ∷ bytes) - length rest ≡ length word = omega (arith, ap length whole, length-append word rest) in
+    front_hash first at bytes f
+    ∙ ap (λ o. ok_or (option_map (λ t. (Include, length (35 ∷ bytes) - length t)) o) (Directive at)) (past_include-of word rest bytes i ends whole)
+    ∙ ap (λ n. Ok (Include, n)) len
+
 include_again : (first : Bool) (at : ℕ) (word rest : Bytes) → first ≡ true → IsInclude word → EndsLine rest → front first at (word ++ rest) ≡ Ok (Include, length word)
 include_again first at word rest f i ends =
-    let bytes = (i.before ++ (codes "include" ++ (i.between ++ (i.header ++ (i.after ++ i.comment))))) ++ rest in
-    let whole : word ++ rest ≡ 35 ∷ bytes = ap (λ t. t ++ rest) i.parts in
-    let len : length (35 ∷ bytes) - length rest ≡ length word = omega (arith, ap length whole, length-append word rest) in
-    ap (front first at) whole ∙ front_hash first at bytes f
-    ∙ ap (λ o. ok_or (option_map (λ t. (Include, length (35 ∷ bytes) - length t)) o) (Directive at)) (past_include-of word rest bytes i ends (sym whole))
-    ∙ ap (λ n. Ok (Include, n)) len
+    let whole : (35 ∷ drop 1 (word ++ rest)) ≡ word ++ rest = rw i.parts refl in
+    ap (front first at) (sym whole) ∙ include_at first at word rest (drop 1 (word ++ rest)) f i ends whole
 
 token_again : (first : Bool) (at : ℕ) (kind : TokenKind) (word rest : Bytes) → IsToken kind word rest → front first at (word ++ rest) ≡ Ok (Lexeme kind, length word)
 token_again first at (Keyword i) word rest t = name_again (Some i) first at word rest t.0 t.1

@@ -32,11 +32,8 @@ fn base_of(body: &[u8]) -> u8
         return 10;
     }
     let second = byte_at(body, 1);
-    if second == b'x' || second == b'X' {
-        16
-    } else {
-        8
-    }
+    let is_hexadecimal = second == b'x' || second == b'X';
+    if is_hexadecimal { 16 } else { 8 }
 }
 
 fn digits_of(body: &[u8]) -> &[u8]

@@ -1,10 +1,8 @@
+use crate::{LexRefusal, Token, TokenKind, text, tokens};
+use srmt_base::Ty;
 use std::alloc::Global;
 use std::process::Abort;
 use std::test::Fail;
-
-use srmt_base::Ty;
-
-use crate::{LexRefusal, Token, TokenKind, text, tokens};
 
 fn lex(rt: &impl Abort, alloc: Global, src: &[u8]) -> Result<Vec<Token>, LexRefusal> {
     assert!(rt; src.len() <= 1048576);
@@ -51,7 +49,10 @@ const TOKENS: [(&[u8], TokenKind); 34] = [
 
 /// Sources that are refused, with the place of the fault.
 const REFUSALS: [(&[u8], LexRefusal); 28] = [
-    (b"int main(void){return 2147483648;}", LexRefusal::LiteralTooWide(22)),
+    (
+        b"int main(void){return 2147483648;}",
+        LexRefusal::LiteralTooWide(22),
+    ),
     (b"#define N 3", LexRefusal::Directive(0)),
     (b"a @", LexRefusal::BadByte(2)),
     (b"a #", LexRefusal::BadByte(2)),
@@ -77,7 +78,10 @@ const REFUSALS: [(&[u8], LexRefusal); 28] = [
     (b"0x100000000", LexRefusal::LiteralTooWide(0)),
     (b" # include <stdlib.h> x", LexRefusal::Directive(1)),
     (b"#include <stdio.h> /*", LexRefusal::Directive(0)),
-    (b"#include <stdio.h> /*\n*/ int x;", LexRefusal::Directive(0)),
+    (
+        b"#include <stdio.h> /*\n*/ int x;",
+        LexRefusal::Directive(0),
+    ),
     (b"'' @", LexRefusal::BadText(0)),
 ];
 
@@ -101,6 +105,53 @@ fn each_kind_and_each_refusal(rt: HostRuntime) {
         match lex(&rt, rt.alloc(), src) {
             Ok(_) => panic!(rt; "{src:?} has tokens"),
             Err(e) => assert_eq!(rt; e, refusal, "in {src:?}"),
+        }
+    }
+}
+
+/// Places, lines with CR LF and with a comment over two lines, and the bytes of a text.
+#[test]
+fn places_lines_and_texts(rt: HostRuntime) -> Result<(), Fail> {
+    let src = b"#include <stdio.h>\n/* a\n */ x\r\n  >>=\"\\x41\\tb\\60\" // z\n.5";
+    let list = tokens(rt.alloc(), src).map_err(|_| "refused")?;
+    let token = |kind, start, end, line| Token {
+        kind,
+        start,
+        end,
+        line,
+    };
+    let want = [
+        token(TokenKind::Name, 28, 29, 3),
+        token(TokenKind::Punct(41), 33, 36, 4),
+        token(TokenKind::Text, 36, 48, 4),
+        token(TokenKind::Punct(6), 54, 55, 5),
+        token(TokenKind::Number(Ty::Int, 5), 55, 56, 5),
+    ];
+    assert_eq!(rt; list.as_slice(), want.as_slice());
+    let bytes = text(rt.alloc(), src, want[2])?.ok_or("no text")?;
+    assert_eq!(rt; bytes.as_slice(), b"A\tb0".as_slice());
+    Ok(())
+}
+
+/// A source with tokens of every kind, comments and an include line.
+const WHOLE: &[u8] =
+    b"#include <stdio.h> // in\n/* all\n * kinds */\nstatic unsigned char table[3] = { 'a', '\\n', '\\377' };\r\n\
+int main(void) {\n  const char *s = \"text \\\"\\x41\\101\\\\\" /* gap */;\n  for (int i = 0; i <= 0x1f; i += 2u)\n    \
+if (*s != 017 && ~i >>= 1) putchar(s[i] ? 1 : 0);\n  # include <stdlib.h>\n  return 2147483647;\n}\n";
+
+#[test]
+fn each_prefix_has_tokens_or_a_fault(rt: HostRuntime) {
+    for len in 0..WHOLE.len() + 1 {
+        match lex(&rt, rt.alloc(), &WHOLE[..len]) {
+            Ok(list) => {
+                for token in list.iter() {
+                    assert!(rt; token.end as usize <= len, "at {len}");
+                }
+            }
+            Err(e) => {
+                assert_ne!(rt; e, LexRefusal::Memory, "at {len}");
+                assert!(rt; len < WHOLE.len());
+            }
         }
     }
 }
