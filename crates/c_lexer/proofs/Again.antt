@@ -1,9 +1,9 @@
 -- A piece or a fault at the front is what is found there, so there is one at most.
-use Rattle.std.proofs.Common.{◌≡◌, ℕ, zero, suc, ◌+◌, ◌-◌, ◌≤◌, ◌<◌, ◌⊎◌, Bool, true, false, not, ◌&&◌, ◌||◌, cond, eqb, get_or, IsTrue, is_some, List, [], ◌∷◌, ◌++◌, length, take, drop, codes, Option, Some, None, option_map, ok_or, Result, Ok, Err, refl, ap, sym, ◌∙◌, subst, inl, inr, arith, length-append, length-drop, length-take-le, append_assoc}
+use Rattle.std.proofs.Common.{◌≡◌, ℕ, suc, ◌+◌, ◌-◌, ◌≤◌, Bool, true, false, not, ◌&&◌, ◌||◌, cond, eqb, get_or, [], ◌∷◌, ◌++◌, length, take, drop, codes, Option, Some, None, option_map, ok_or, Ok, Err, refl, ap, sym, ◌∙◌, subst, inl, inr, arith, length-append, length-take-le, append_assoc}
 use Rattle.std.specs.List.{prefix_len}
 use Rattle.std.specs.Char.{is_ascii_digit}
-use Rattle.std.proofs.lemmas.List.{take_at, drop_at, take-append-drop}
-use Rattle.std.proofs.lemmas.Bool.{cond-true, cond-false, eqb-true, false_from_ne_true, false≢true, or_parts, or_from, and_right}
+use Rattle.std.proofs.lemmas.List.{take_at, take-append-drop}
+use Rattle.std.proofs.lemmas.Bool.{cond-true, cond-false, false_from_ne_true, false≢true, or_parts, or_from, and_right}
 use Rattle.std.proofs.lemmas.List.Sums.{prefix_len-le-length}
 use Rattle.std.proofs.lemmas.Bool.Decides.{nat_tests}
 use Rattle.srmt_base.specs.declared.ty.Ty.{Ty}
@@ -13,15 +13,15 @@ use Rattle.c_lexer.specs.declared.token.LexRefusal.{LexRefusal}
 use Rattle.c_lexer.specs.declared.token.LexRefusal.TheVariants.{BadByte, OpenComment, OpenText, BadText, BadNumber, LiteralTooWide, Directive, Memory}
 use Rattle.c_lexer.specs.declared.piece.Piece.{Piece}
 use Rattle.c_lexer.specs.declared.piece.Piece.TheVariants.{Blank, LineComment, BlockComment, Include, Lexeme}
-use Rattle.c_lexer.specs.Tokens.{Bytes, IsLongest, IsShortest, NoFront, IsName, IsNumber, IsQuoted, IsPunctuator, IsInclude, IsLineComment, IsBlockComment, EndsLine, IsToken, IsPiece, IsFault, IsBadQuoted, IsStray, begins_with, begins_comment, is_blank, is_line_feed, begins_name, continues_name, keyword_place, punctuator_place, is_constant, constant_type, constant_value, continues_number, is_quote, is_body, inner, decoded, one_byte, character_value}
-use Rattle.c_lexer.specs.Scan.{Found, comment_end, line_len, block_comment, past_include, directive, name_kind, name, number_len, number_kind, with_len, number, closing, quoted_kind, closed, quoted, punctuator, mark, front}
-use Rattle.c_lexer.proofs.Fronts.{one_plus, longest_same}
-use Rattle.c_lexer.proofs.Comments.{comment_shortest, comment_found, comment_end-fits}
-use Rattle.c_lexer.proofs.Names.{name_longest, number_longest, line_longest, name_continues}
+use Rattle.c_lexer.specs.Tokens.{Bytes, IsLongest, IsShortest, NoFront, IsName, IsNumber, IsQuoted, IsPunctuator, IsInclude, IsLineComment, IsBlockComment, EndsLine, IsToken, IsPiece, IsFault, IsBadQuoted, IsStray, begins_with, begins_comment, is_blank, is_line_feed, begins_name, continues_name, keyword_place, punctuator_place, is_constant, constant_type, constant_value, continues_number, is_quote, inner, decoded, one_byte, character_value}
+use Rattle.c_lexer.specs.Scan.{comment_end, line_len, block_comment, past_include, directive, name_kind, name, number_len, number_kind, with_len, number, closing, quoted_kind, closed, quoted, punctuator, mark, front}
+use Rattle.c_lexer.proofs.Fronts.{longest_same}
+use Rattle.c_lexer.proofs.Comments.{comment_shortest, comment_found}
+use Rattle.c_lexer.proofs.Names.{name_longest, number_longest, line_longest}
 use Rattle.c_lexer.proofs.Quotes.{closing_is, closing_body}
-use Rattle.c_lexer.proofs.Marks.{Mark, mark_is, mark_longest, mark_none, begins_other, some_is, clash}
+use Rattle.c_lexer.proofs.Marks.{mark_is, mark_longest, mark_none, begins_other, some_is}
 use Rattle.c_lexer.proofs.Includes.{begins_with-is, past_include-is, past_include-of}
-use Rattle.c_lexer.proofs.Pieces.{IsMark, quote_is, quote_mark, inner-is}
+use Rattle.c_lexer.proofs.Pieces.{quote_is, quote_mark, inner-is}
 
 -- the longest word is what stands before its length
 same_len : (S : Bytes → Type 0) (n : ℕ) (word rest bytes : Bytes) → bytes ≡ word ++ rest → n ≤ length bytes → IsLongest S word rest → IsLongest S (take n bytes) (drop n bytes) → n ≡ length word
@@ -106,7 +106,7 @@ name_again o first at [] rest l e = absurd l.0
 name_again o first at (b ∷ word) rest l e =
     let bytes = word ++ rest in
     let len : prefix_len continues_name (b ∷ bytes) ≡ length (b ∷ word) =
-        same_len IsName (prefix_len continues_name (b ∷ bytes)) (b ∷ word) rest (b ∷ bytes) refl (name_len_fits b bytes) l (name_longest b bytes l.0.0) in
+    same_len IsName (prefix_len continues_name (b ∷ bytes)) (b ∷ word) rest (b ∷ bytes) refl (name_len_fits b bytes) l (name_longest b bytes l.0.0) in
     front_name first at b bytes l.0.0
     ∙ ap (λ n. Ok (Lexeme (name_kind (keyword_place (take n (b ∷ bytes)))), n)) len
     ∙ ap (λ w. Ok (Lexeme (name_kind (keyword_place w)), length (b ∷ word))) (take_at (b ∷ word) rest (length (b ∷ word)) refl)
@@ -126,7 +126,7 @@ number_again first at [] rest l = absurd l.0
 number_again first at (b ∷ word) rest l =
     let bytes = word ++ rest in
     let len : number_len b bytes + 1 ≡ length (b ∷ word) =
-        same_len IsNumber (number_len b bytes + 1) (b ∷ word) rest (b ∷ bytes) refl (omega (arith, number_len_fits b bytes)) l (number_longest b bytes l.0.0) in
+    same_len IsNumber (number_len b bytes + 1) (b ∷ word) rest (b ∷ bytes) refl (omega (arith, number_len_fits b bytes)) l (number_longest b bytes l.0.0) in
     front_number first at b bytes l.0.0
     ∙ ap (λ n. with_len n (number_kind at (take n (b ∷ bytes)))) len
     ∙ ap (λ w. with_len (length (b ∷ word)) (number_kind at w)) (take_at (b ∷ word) rest (length (b ∷ word)) refl)
@@ -198,7 +198,7 @@ line_again first at word rest l =
     let bytes = l.0.0 ++ rest in
     let whole : word ++ rest ≡ 47 ∷ 47 ∷ bytes = ap (λ t. t ++ rest) l.0.1 in
     let len : line_len (47 ∷ 47 ∷ bytes) ≡ length word =
-        same_len IsLineComment (line_len (47 ∷ 47 ∷ bytes)) word rest (47 ∷ 47 ∷ bytes) (sym whole) (prefix_len-le-length (λ b. not (is_line_feed b)) (47 ∷ 47 ∷ bytes)) l (line_longest bytes) in
+    same_len IsLineComment (line_len (47 ∷ 47 ∷ bytes)) word rest (47 ∷ 47 ∷ bytes) (sym whole) (prefix_len-le-length (λ b. not (is_line_feed b)) (47 ∷ 47 ∷ bytes)) l (line_longest bytes) in
     ap (front first at) whole ∙ front_line first at bytes ∙ ap (λ n. Ok (LineComment, n)) len
 
 block_again : (first : Bool) (at : ℕ) (word rest : Bytes) → IsShortest IsBlockComment word → front first at (word ++ rest) ≡ Ok (BlockComment, length word)
@@ -208,14 +208,17 @@ block_again first at word rest w =
     ap (front first at) whole ∙ front_block first at bytes
     ∙ ap (λ o. ok_or (option_map (λ end. (BlockComment, end)) o) (OpenComment at)) (comment_found word rest bytes w (sym whole))
 
+include_at : (first : Bool) (at : ℕ) (word rest bytes : Bytes) → first ≡ true → IsInclude word → EndsLine rest → (35 ∷ bytes) ≡ word ++ rest → front first at (35 ∷ bytes) ≡ Ok (Include, length word)
+include_at first at word rest bytes f i ends whole =
+    let len : length (35 ∷ bytes) - length rest ≡ length word = omega (arith, ap length whole, length-append word rest) in
+    front_hash first at bytes f
+    ∙ ap (λ o. ok_or (option_map (λ t. (Include, length (35 ∷ bytes) - length t)) o) (Directive at)) (past_include-of word rest bytes i ends whole)
+    ∙ ap (λ n. Ok (Include, n)) len
+
 include_again : (first : Bool) (at : ℕ) (word rest : Bytes) → first ≡ true → IsInclude word → EndsLine rest → front first at (word ++ rest) ≡ Ok (Include, length word)
 include_again first at word rest f i ends =
-    let bytes = (i.before ++ (codes "include" ++ (i.between ++ (i.header ++ (i.after ++ i.comment))))) ++ rest in
-    let whole : word ++ rest ≡ 35 ∷ bytes = ap (λ t. t ++ rest) i.parts in
-    let len : length (35 ∷ bytes) - length rest ≡ length word = omega (arith, ap length whole, length-append word rest) in
-    ap (front first at) whole ∙ front_hash first at bytes f
-    ∙ ap (λ o. ok_or (option_map (λ t. (Include, length (35 ∷ bytes) - length t)) o) (Directive at)) (past_include-of word rest bytes i ends (sym whole))
-    ∙ ap (λ n. Ok (Include, n)) len
+    let whole : (35 ∷ drop 1 (word ++ rest)) ≡ word ++ rest = rw i.parts refl in
+    ap (front first at) (sym whole) ∙ include_at first at word rest (drop 1 (word ++ rest)) f i ends whole
 
 token_again : (first : Bool) (at : ℕ) (kind : TokenKind) (word rest : Bytes) → IsToken kind word rest → front first at (word ++ rest) ≡ Ok (Lexeme kind, length word)
 token_again first at (Keyword i) word rest t = name_again (Some i) first at word rest t.0 t.1
@@ -293,7 +296,7 @@ directive_again first at bytes f e never =
     let whole = begins_with-is (codes "#") bytes e in
     ap (front first at) whole ∙ front_hash first at (drop 1 bytes) f
     ∙ ap (λ o. ok_or (option_map (λ rest. (Include, length (35 ∷ drop 1 bytes) - length rest)) o) (Directive at))
-        (other_none (drop 1 bytes) (past_include (drop 1 bytes)) refl (λ word rest i. never word rest (whole ∙ i)))
+    (other_none (drop 1 bytes) (past_include (drop 1 bytes)) refl (λ word rest i. never word rest (whole ∙ i)))
 
 pub fault_again : (first : Bool) (at : ℕ) (bytes : Bytes) (refusal : LexRefusal) → IsFault first at bytes refusal → front first at bytes ≡ Err refusal
 fault_again first at bytes (BadByte place) f = stray_again first at bytes f.1 ∙ ap (λ n. Err (BadByte n)) (sym f.0)

@@ -1,11 +1,10 @@
 -- Where a block comment ends.
-use Rattle.std.proofs.Common.{◌≡◌, ℕ, zero, suc, ◌+◌, ◌-◌, ◌≤◌, ◌<◌, ◌⊎◌, Bool, true, false, ◌&&◌, cond, eqb, get_or, List, [], ◌∷◌, ◌++◌, length, take, drop, Option, Some, None, refl, ap, sym, ◌∙◌, subst, inl, inr, arith, length-append, length-drop, append_assoc}
+use Rattle.std.proofs.Common.{◌≡◌, ℕ, suc, ◌+◌, ◌≤◌, Bool, true, false, ◌&&◌, cond, eqb, get_or, [], ◌∷◌, ◌++◌, length, take, drop, Option, Some, None, refl, ap, sym, ◌∙◌, subst, inl, inr, arith, length-append, length-drop, append_assoc}
 use Rattle.std.proofs.lemmas.List.{take_at, take-append-le, take-append-drop}
 use Rattle.std.proofs.lemmas.Bool.{and_parts, eqb-true, cases_order}
 use Rattle.c_lexer.specs.Tokens.{Bytes, IsShortest, IsBlockComment, NoFront}
 use Rattle.c_lexer.specs.Scan.{comment_end}
 use Rattle.c_lexer.proofs.Choices.{chosen}
-use Rattle.c_lexer.proofs.Fronts.{front_cases}
 
 -- a found end is one
 pub comment_end-is : (at n : ℕ) (bytes : Bytes) → comment_end at bytes ≡ Some n → (body rest : Bytes) × (bytes ≡ body ++ (42 ∷ 47 ∷ rest)) × (n ≡ at + length body + 2)
@@ -14,15 +13,16 @@ comment_end-is at n (b ∷ []) e =
     elim (chosen (eqb b 42 && false) (Some (at + 2)) None (Some n) e)
     [ inl w ↦ absurd (let t = (and_parts (eqb b 42) false w.0).1 in cc) | inr w ↦ absurd (let t = w.1 in cc) ]
 comment_end-is at n (b ∷ c ∷ bytes) e =
-    elim (chosen (eqb b 42 && eqb c 47) (Some (at + 2)) (comment_end (at + 1) (c ∷ bytes)) (Some n) e)
-    [ inl w ↦
-        let star = eqb-true b 42 (and_parts (eqb b 42) (eqb c 47) w.0).0 in
-        let slash = eqb-true c 47 (and_parts (eqb b 42) (eqb c 47) w.0).1 in
-        let same : at + 2 ≡ n = let t = w.1 in cc in
-        ([], bytes, cc, omega arith)
-    | inr w ↦
-        let later = comment_end-is (at + 1) n (c ∷ bytes) w.1 in
-        (b ∷ later.0, later.1, ap (λ t. b ∷ t) later.2, omega (arith, later.3)) ]
+    elim (chosen (eqb b 42 && eqb c 47) (Some (at + 2)) (comment_end (at + 1) (c ∷ bytes)) (Some n) e) [
+      | inl w ↦
+          let star = eqb-true b 42 (and_parts (eqb b 42) (eqb c 47) w.0).0 in
+          let slash = eqb-true c 47 (and_parts (eqb b 42) (eqb c 47) w.0).1 in
+          let same : at + 2 ≡ n = let t = w.1 in cc in
+          ([], bytes, cc, omega arith)
+      | inr w ↦
+          let later = comment_end-is (at + 1) n (c ∷ bytes) w.1 in
+          (b ∷ later.0, later.1, ap (λ t. b ∷ t) later.2, omega (arith, later.3))
+    ]
 
 early_or_later : (t : Bool) (at len : ℕ) (o : Option ℕ) → (n : ℕ) × (o ≡ Some n) × (n ≤ at + 1 + len + 2)
     → (n : ℕ) × (cond t (Some (at + 2)) o ≡ Some n) × (n ≤ at + suc len + 2)
@@ -55,14 +55,15 @@ comment_shortest n bytes e =
     let len : length word ≡ n = omega (arith, length-append body (42 ∷ 47 ∷ []), found.3) in
     let whole : (47 ∷ 42 ∷ bytes) ≡ word ++ found.1 = ap (λ t. 47 ∷ 42 ∷ t) (found.2 ∙ sym (append_assoc body (42 ∷ 47 ∷ []) found.1)) in
     let is_word : take n (47 ∷ 42 ∷ bytes) ≡ word = ap (take n) whole ∙ take_at word found.1 n len in
-    subst (IsShortest IsBlockComment) (sym is_word)
-    ( (body, refl)
-    , λ front more h i s.
-        let split = block_split front (more ++ found.1) bytes s (whole ∙ ap (λ t. t ++ found.1) i ∙ append_assoc front more found.1) in
-        let early = comment_end-early 2 split.0 (more ++ found.1) in
-        let again : comment_end 2 bytes ≡ Some early.0 = ap (comment_end 2) split.1 ∙ early.1 in
-        let same : n ≡ early.0 = cc in
-        omega (arith, early.2, split.2, ap length i, length-append front more))
+    subst (IsShortest IsBlockComment) (sym is_word) (
+      (body, refl),
+      λ front more h i s.
+          let split = block_split front (more ++ found.1) bytes s (whole ∙ ap (λ t. t ++ found.1) i ∙ append_assoc front more found.1) in
+          let early = comment_end-early 2 split.0 (more ++ found.1) in
+          let again : comment_end 2 bytes ≡ Some early.0 = ap (comment_end 2) split.1 ∙ early.1 in
+          let same : n ≡ early.0 = cc in
+          omega (arith, early.2, split.2, ap length i, length-append front more),
+    )
 
 pub comment_end-fits : (at n : ℕ) (bytes : Bytes) → comment_end at bytes ≡ Some n → n ≤ at + length bytes
 comment_end-fits at n bytes e =
@@ -72,14 +73,16 @@ comment_end-fits at n bytes e =
 found_len : (word rest bytes : Bytes) (n : ℕ) → IsShortest IsBlockComment word → (47 ∷ 42 ∷ bytes) ≡ word ++ rest → n ≤ length word
     → IsBlockComment (take n (47 ∷ 42 ∷ bytes)) → n ≤ 2 + length bytes → n ≡ length word
 found_len word rest bytes n w e le s fits =
-    elim (cases_order n (length word)) as (λ _. n ≡ length word)
-    [ inl same ↦ same
-    | inr o ↦ elim o as (λ _. n ≡ length word)
-        [ inl less ↦
+    elim (cases_order n (length word)) as (λ _. n ≡ length word) [
+      | inl same ↦ same
+      | inr o ↦ elim o as (λ _. n ≡ length word) [
+        | inl less ↦
             let front : take n (47 ∷ 42 ∷ bytes) ≡ take n word = ap (take n) e ∙ take-append-le n word rest le in
             let parts : word ≡ take n word ++ drop n word = sym (take-append-drop n word) in
             absurd (w.1 (take n word) (drop n word) (omega (arith, length-drop n word)) parts (subst IsBlockComment front s))
-        | inr more ↦ absurd (omega arith) ] ]
+        | inr more ↦ absurd (omega arith)
+      ]
+    ]
 
 -- the shortest block comment is found, whatever follows it
 pub comment_found : (word rest bytes : Bytes) → IsShortest IsBlockComment word → (47 ∷ 42 ∷ bytes) ≡ word ++ rest → comment_end 2 bytes ≡ Some (length word)

@@ -1,8 +1,7 @@
 -- The bytes that a body means, one after the other.
-use Rattle.std.proofs.Common.{◌≡◌, ℕ, zero, suc, ◌+◌, ◌-◌, ◌≤◌, ◌<◌, ◌⊎◌, Bool, true, false, cond, eqb, nat_lt, get_or, List, [], ◌∷◌, ◌++◌, length, take, drop, Option, Some, None, option_map, option_and_then, is_some, refl, ap, sym, ◌∙◌, inl, inr, arith, length-drop, append_assoc, append-nil}
+use Rattle.std.proofs.Common.{◌≡◌, ℕ, zero, suc, ◌≤◌, ◌<◌, true, false, eqb, nat_lt, get_or, [], ◌∷◌, ◌++◌, length, drop, Option, Some, None, option_map, option_and_then, is_some, refl, ap, sym, ◌∙◌, inl, inr, arith, length-drop, append_assoc, append-nil}
 use Rattle.std.proofs.lemmas.List.{drop_all, nil_from_length}
-use Rattle.std.proofs.lemmas.Bool.{eq-eqb, ne_eqb}
-use Rattle.c_lexer.specs.Tokens.{Bytes, escape, escape_byte, byte_of, octal_len, hexadecimal_len, value_in, first_byte, decoded_within, decoded, sole, one_byte}
+use Rattle.c_lexer.specs.Tokens.{Bytes, escape, escape_byte, byte_of, octal_len, hexadecimal_len, first_byte, decoded_within, decoded, sole, one_byte, Means}
 use Rattle.c_lexer.proofs.Choices.{chosen, bind_same, map_some}
 
 byte_of-len : (value len : ℕ) (f : ℕ × ℕ) → byte_of value len ≡ Some f → f.1 ≡ len
@@ -12,11 +11,13 @@ byte_of-len value len f e =
 escape_moves : (bytes : Bytes) (f : ℕ × ℕ) → escape bytes ≡ Some f → 1 ≤ f.1
 unfolding escape
 escape_moves bytes f e =
-    elim (chosen (nat_lt 0 (octal_len bytes)) _ _ _ e) as (λ _. 1 ≤ f.1)
-    [ inl w ↦ omega (arith, byte_of-len _ _ f w.1)
-    | inr w ↦ elim (chosen (nat_lt 0 (hexadecimal_len bytes)) _ _ _ w.1) as (λ _. 1 ≤ f.1)
-        [ inl v ↦ omega (arith, byte_of-len _ _ f v.1)
-        | inr v ↦ let m = map_some (λ b. (b, 2)) (escape_byte (get_or bytes 0 0)) f v.1 in omega (arith, ap (λ p. p.1) m.2) ] ]
+    elim (chosen (nat_lt 0 (octal_len bytes)) _ _ _ e) as (λ _. 1 ≤ f.1) [
+      | inl w ↦ omega (arith, byte_of-len _ _ f w.1)
+      | inr w ↦ elim (chosen (nat_lt 0 (hexadecimal_len bytes)) _ _ _ w.1) as (λ _. 1 ≤ f.1) [
+        | inl v ↦ omega (arith, byte_of-len _ _ f v.1)
+        | inr v ↦ let m = map_some (λ b. (b, 2)) (escape_byte (get_or bytes 0 0)) f v.1 in omega (arith, ap (λ p. p.1) m.2)
+      ]
+    ]
 
 pub first_byte_moves : (body : Bytes) (f : ℕ × ℕ) → first_byte body ≡ Some f → 1 ≤ f.1
 first_byte_moves [] f e = absurd (cc)
@@ -36,7 +37,7 @@ within_same (suc n) zero (b ∷ bytes) h i = absurd (omega arith)
 within_same (suc n) (suc m) (b ∷ bytes) h i =
     bind_same (first_byte (b ∷ bytes)) _ _
     (λ f e. ap (λ o. option_map (λ others. f.0 ∷ others) o)
-        (within_same n m (drop f.1 (b ∷ bytes)) (shorter n f.1 (b ∷ bytes) (first_byte_moves (b ∷ bytes) f e) h) (shorter m f.1 (b ∷ bytes) (first_byte_moves (b ∷ bytes) f e) i)))
+    (within_same n m (drop f.1 (b ∷ bytes)) (shorter n f.1 (b ∷ bytes) (first_byte_moves (b ∷ bytes) f e) h) (shorter m f.1 (b ∷ bytes) (first_byte_moves (b ∷ bytes) f e) i)))
 
 pub decoded-nil : decoded [] ≡ Some []
 unfolding decoded
@@ -120,3 +121,28 @@ decoded_end kept body e = rw (nil_from_length body e, decoded-nil) (ap Some (app
 
 pub decoded_fails : (kept body : Bytes) → 0 < length body → first_byte body ≡ None → option_map (λ others. kept ++ others) (decoded body) ≡ None
 decoded_fails kept body h e = ap (option_map (λ others. kept ++ others)) (decoded_stops body h e)
+
+-- ---- the function gives what a body means
+
+no_first : (body : Bytes) {b : ℕ} {bytes : Bytes} → first_byte body ≡ None → decoded body ≡ Some (b ∷ bytes) → ⊥
+no_first [] f e = absurd (let s = decoded-nil in cc)
+no_first (c ∷ body) f e = absurd (let s = decoded_stops (c ∷ body) (omega arith) f in cc)
+
+heads_same : (a b : ℕ) (s t : Bytes) → a ∷ s ≡ b ∷ t → (a ≡ b) × (s ≡ t)
+heads_same a b s t e = (cc, cc)
+
+pub decoded_means : (bytes body : Bytes) → decoded body ≡ Some bytes → Means body bytes
+decoded_means [] [] e = refl
+decoded_means [] (b ∷ body) e = absurd (omega (arith, decoded_more (b ∷ body) (omega arith) [] e))
+decoded_means (b ∷ bytes) body e = by_first (first_byte body) refl (λ k i. decoded_means bytes (drop k body) i)
+  where
+    by_first : (o : Option (ℕ × ℕ)) → first_byte body ≡ o → ((k : ℕ) → decoded (drop k body) ≡ Some bytes → Means (drop k body) bytes) → Means body (b ∷ bytes)
+    by_first None f later = absurd (no_first body f e)
+    by_first (Some first) f later =
+        let m = map_some (λ others. first.0 ∷ others) (decoded (drop first.1 body)) (b ∷ bytes) (sym (decoded_goes body first f) ∙ e) in
+        let same = heads_same first.0 b m.0 bytes m.2 in
+        (first.1, f ∙ ap (λ v. Some (v, first.1)) same.0, later first.1 (m.1 ∙ ap Some same.1))
+
+pub means_decoded : (bytes body : Bytes) → Means body bytes → decoded body ≡ Some bytes
+means_decoded [] body m = ap decoded m ∙ decoded-nil
+means_decoded (b ∷ bytes) body m = decoded_goes body (b, m.0) m.1 ∙ ap (option_map (λ others. b ∷ others)) (means_decoded bytes (drop m.0 body) m.2)

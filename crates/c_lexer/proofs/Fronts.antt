@@ -1,9 +1,8 @@
 -- Fronts of byte lists: the longest in a set is one, and the longest whose bytes pass a test.
-use Rattle.std.proofs.Common.{◌≡◌, ℕ, zero, suc, ◌+◌, ◌-◌, ◌≤◌, ◌<◌, ◌⊎◌, Bool, true, false, not, ◌&&◌, cond, List, [], ◌∷◌, ◌++◌, length, take, drop, refl, ap, sym, ◌∙◌, subst, inl, inr, arith, length-append, append-nil}
+use Rattle.std.proofs.Common.{◌≡◌, ℕ, suc, ◌+◌, ◌<◌, ◌⊎◌, Bool, true, false, [], ◌∷◌, ◌++◌, length, take, drop, refl, ap, sym, ◌∙◌, subst, inl, inr, arith, append-nil}
 use Rattle.std.specs.List.{prefix_len, list_all}
-use Rattle.std.proofs.lemmas.List.{take_at, drop_at, take-append-drop, nil_from_length}
-use Rattle.std.proofs.lemmas.Bool.{cond_both, and_from, and_parts, and_left, false_from_ne_true}
-use Rattle.c_lexer.specs.Tokens.{Bytes, IsLongest, NoFront}
+use Rattle.std.proofs.lemmas.Bool.{cond_both, and_from, and_parts, and_left}
+use Rattle.c_lexer.specs.Tokens.{Bytes, IsLongest}
 
 pub one_plus : (n : ℕ) → 1 + n ≡ suc n
 one_plus n = omega arith
@@ -15,9 +14,10 @@ front_cases (x ∷ a) b [] d e = inr (x ∷ a, refl, sym e)
 front_cases (x ∷ a) b (y ∷ c) d e =
     let heads : x ≡ y = cc in
     let tails : a ++ b ≡ c ++ d = cc in
-    elim (front_cases a b c d tails)
-    [ inl w ↦ inl (w.0, (let t = w.1 in cc), w.2)
-    | inr w ↦ inr (w.0, (let t = w.1 in cc), w.2) ]
+    elim (front_cases a b c d tails) [
+      | inl w ↦ inl (w.0, (let t = w.1 in cc), w.2)
+      | inr w ↦ inr (w.0, (let t = w.1 in cc), w.2)
+    ]
 
 longer_is_same : (S : Bytes → Type 0) (w rest more tail : Bytes) → IsLongest S w rest → S (w ++ more) → rest ≡ more ++ tail → w ≡ w ++ more
 longer_is_same S w rest [] tail l s e = sym (append-nil w)
@@ -26,9 +26,10 @@ longer_is_same S w rest (b ∷ more) tail l s e = absurd (l.1 (b ∷ more) tail 
 -- the longest front in a set is one
 pub longest_same : (S : Bytes → Type 0) (w rest v tail : Bytes) → IsLongest S w rest → IsLongest S v tail → w ++ rest ≡ v ++ tail → w ≡ v
 longest_same S w rest v tail l m e =
-    elim (front_cases w rest v tail e) as (λ _. w ≡ v)
-    [ inl c ↦ longer_is_same S w rest c.0 tail l (subst S c.1 m.0) c.2 ∙ sym c.1
-    | inr c ↦ c.1 ∙ sym (longer_is_same S v tail c.0 rest m (subst S c.1 l.0) c.2) ]
+    elim (front_cases w rest v tail e) as (λ _. w ≡ v) [
+      | inl c ↦ longer_is_same S w rest c.0 tail l (subst S c.1 m.0) c.2 ∙ sym c.1
+      | inr c ↦ c.1 ∙ sym (longer_is_same S v tail c.0 rest m (subst S c.1 l.0) c.2)
+    ]
 
 -- ---- the bytes from the front on that pass a test
 

@@ -1,5 +1,5 @@
 -- What follows a gap.
-use Rattle.std.proofs.Common.{◌≡◌, ℕ, zero, suc, ◌-◌, ◌≤◌, ◌<◌, true, false, cond, nat_lt, [], ◌∷◌, drop, refl, ap, arith}
+use Rattle.std.proofs.Common.{◌≡◌, ℕ, zero, suc, ◌-◌, ◌<◌, cond, nat_lt, [], ◌∷◌, drop, refl, ap, arith}
 use Rattle.std.proofs.lemmas.Bool.{lt-ltb}
 use Rattle.c_lexer.specs.Tokens.{Bytes}
 use Rattle.c_lexer.specs.Scan.{gap_part, past_gap_from, past_gap}

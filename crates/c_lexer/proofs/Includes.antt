@@ -1,13 +1,13 @@
 -- The two `#include` lines.
-use Rattle.std.proofs.Common.{◌≡◌, ℕ, zero, suc, ◌+◌, ◌-◌, ◌≤◌, ◌<◌, ◌⊎◌, Bool, true, false, not, ◌&&◌, ◌||◌, cond, eqb, ltb, IsTrue, List, [], ◌∷◌, ◌++◌, length, take, drop, codes, nat_eq, Option, Some, None, unwrap_or, option_and_then, refl, ap, sym, ◌∙◌, subst, inl, inr, arith, length-append, length-drop, append_assoc, append-nil}
-use Rattle.std.specs.List.{prefix_len, list_all, concat, AllByRecursion}
+use Rattle.std.proofs.Common.{◌≡◌, ℕ, zero, suc, ◌+◌, ◌≤◌, ◌<◌, ◌⊎◌, true, false, not, eqb, List, [], ◌∷◌, ◌++◌, length, take, drop, codes, nat_eq, Option, Some, None, unwrap_or, refl, ap, sym, ◌∙◌, subst, inl, inr, arith, length-drop, append_assoc}
+use Rattle.std.specs.List.{prefix_len, concat, AllByRecursion}
 use Rattle.std.specs.Cmp.Lexicographic.{pointwise}
-use Rattle.std.proofs.lemmas.List.{take_at, drop_at, take-append-drop}
+use Rattle.std.proofs.lemmas.List.{drop_at, take-append-drop}
 use Rattle.std.proofs.lemmas.Bool.{and_parts, eqb-true, cond_both, cond-true, cases_order}
-use Rattle.c_lexer.specs.Tokens.{Bytes, IsShortest, IsBlockComment, IsLineComment, IsGapPart, IsGap, IsHeader, IsInclude, EndsLine, begins_with, is_line_feed, is_blank_in_line}
-use Rattle.c_lexer.specs.Scan.{comment_end, line_len, gap_part, past_gap, past_text, past_header, past_comment, ends_line, at_line_end, past_include}
+use Rattle.c_lexer.specs.Tokens.{Bytes, IsLineComment, IsGapPart, IsGap, IsHeader, IsInclude, EndsLine, begins_with, is_line_feed, is_blank_in_line}
+use Rattle.c_lexer.specs.Scan.{comment_end, line_len, gap_part, past_gap, past_text, past_header, past_comment, at_line_end, past_include}
 use Rattle.c_lexer.proofs.Choices.{chosen, bind_some}
-use Rattle.c_lexer.proofs.Fronts.{one_plus, prefix_len-stops}
+use Rattle.c_lexer.proofs.Fronts.{prefix_len-stops}
 use Rattle.c_lexer.proofs.Gaps.{gap_part-nil, past_gap_stops, past_gap_goes}
 use Rattle.c_lexer.proofs.Comments.{comment_shortest, comment_found, comment_end-fits}
 use Rattle.c_lexer.proofs.Names.{line_longest}
@@ -46,18 +46,21 @@ past_gap-within : (n : ℕ) (bytes : Bytes) → length bytes ≤ n → (gap : By
 past_gap-within zero [] h = ([], ([], tt, refl), sym (past_gap_stops [] gap_part-nil))
 past_gap-within zero (b ∷ bytes) h = absurd (omega arith)
 past_gap-within (suc n) bytes h =
-    elim (cases_order (gap_part bytes) 0)
-    [ inl none ↦ ([], ([], tt, refl), sym (past_gap_stops bytes none))
-    | inr o ↦ elim o
-        [ inl less ↦ absurd (omega arith)
+    elim (cases_order (gap_part bytes) 0) [
+      | inl none ↦ ([], ([], tt, refl), sym (past_gap_stops bytes none))
+      | inr o ↦ elim o [
+        | inl less ↦ absurd (omega arith)
         | inr some ↦
             let len = gap_part bytes in
             let part = gap_part-is bytes some in
-            let later = past_gap-within n (drop len bytes) (omega (arith, length-drop len bytes, part.1)) in
-            ( take len bytes ++ later.0
-            , (take len bytes ∷ later.1.0, (part.0, later.1.1), ap (λ t. take len bytes ++ t) later.1.2)
-            , sym (take-append-drop len bytes) ∙ ap (λ t. take len bytes ++ t) (later.2 ∙ ap (λ t. later.0 ++ t) (past_gap_goes bytes some))
-              ∙ sym (append_assoc (take len bytes) later.0 (past_gap bytes)) ) ] ]
+            let later = past_gap-within n (drop len bytes) (omega (arith, length-drop len bytes, part.1)) in (
+              take len bytes ++ later.0,
+              (take len bytes ∷ later.1.0, (part.0, later.1.1), ap (λ t. take len bytes ++ t) later.1.2),
+              sym (take-append-drop len bytes) ∙ ap (λ t. take len bytes ++ t) (later.2 ∙ ap (λ t. later.0 ++ t) (past_gap_goes bytes some))
+                  ∙ sym (append_assoc (take len bytes) later.0 (past_gap bytes)),
+            )
+      ]
+    ]
 
 pub past_gap-is : (bytes : Bytes) → (gap : Bytes) × IsGap gap × (bytes ≡ gap ++ past_gap bytes)
 past_gap-is bytes = past_gap-within (length bytes) bytes (omega arith)
@@ -75,10 +78,11 @@ gap_part-of : (part rest : Bytes) → IsGapPart part → (gap_part (part ++ rest
 gap_part-of part rest (inl w) = (rw w.2 (gap_part-blank w.0 rest w.1), omega (arith, ap length w.2))
 gap_part-of part rest (inr w) =
     let body = w.0.0 in
-    let whole : part ++ rest ≡ 47 ∷ 42 ∷ ((body ++ (42 ∷ 47 ∷ [])) ++ rest) = ap (λ t. t ++ rest) w.0.1 in
-    ( ap gap_part whole ∙ gap_part-comment ((body ++ (42 ∷ 47 ∷ [])) ++ rest)
-      ∙ ap (λ o. unwrap_or o 0) (comment_found part rest ((body ++ (42 ∷ 47 ∷ [])) ++ rest) w (sym whole))
-    , omega (arith, ap length w.0.1))
+    let whole : part ++ rest ≡ 47 ∷ 42 ∷ ((body ++ (42 ∷ 47 ∷ [])) ++ rest) = ap (λ t. t ++ rest) w.0.1 in (
+      ap gap_part whole ∙ gap_part-comment ((body ++ (42 ∷ 47 ∷ [])) ++ rest)
+          ∙ ap (λ o. unwrap_or o 0) (comment_found part rest ((body ++ (42 ∷ 47 ∷ [])) ++ rest) w (sym whole)),
+      omega (arith, ap length w.0.1),
+    )
 
 past_parts : (parts : List Bytes) (rest : Bytes) → AllByRecursion IsGapPart parts → gap_part rest ≡ 0 → past_gap (concat parts ++ rest) ≡ rest
 past_parts [] rest a e = past_gap_stops rest e
@@ -123,17 +127,19 @@ regroup a b c d e f rest = sym (simp append_assoc)
 
 past_text-is : (text bytes rest : Bytes) → past_text text bytes ≡ Some rest → bytes ≡ text ++ rest
 past_text-is text bytes rest e =
-    elim (chosen (begins_with text bytes) (Some (drop (length text) bytes)) None (Some rest) e) as (λ _. bytes ≡ text ++ rest)
-    [ inl w ↦ let same : drop (length text) bytes ≡ rest = let t = w.1 in cc in begins_with-is text bytes w.0 ∙ ap (λ t. text ++ t) same
-    | inr w ↦ absurd (let t = w.1 in cc) ]
+    elim (chosen (begins_with text bytes) (Some (drop (length text) bytes)) None (Some rest) e) as (λ _. bytes ≡ text ++ rest) [
+      | inl w ↦ let same : drop (length text) bytes ≡ rest = let t = w.1 in cc in begins_with-is text bytes w.0 ∙ ap (λ t. text ++ t) same
+      | inr w ↦ absurd (let t = w.1 in cc)
+    ]
 
 past_header-is : (bytes rest : Bytes) → past_header bytes ≡ Some rest → (header : Bytes) × IsHeader header × (bytes ≡ header ++ rest)
 unfolding past_header
 past_header-is bytes rest e =
-    elim (chosen (begins_with (codes "<stdio.h>") bytes) (Some (drop 9 bytes)) (past_text (codes "<stdlib.h>") bytes) (Some rest) e)
-    [ inl w ↦ let same : drop 9 bytes ≡ rest = let t = w.1 in cc in
-        (codes "<stdio.h>", inl refl, begins_with-is (codes "<stdio.h>") bytes w.0 ∙ ap (λ t. codes "<stdio.h>" ++ t) same)
-    | inr w ↦ (codes "<stdlib.h>", inr refl, past_text-is (codes "<stdlib.h>") bytes rest w.1) ]
+    elim (chosen (begins_with (codes "<stdio.h>") bytes) (Some (drop 9 bytes)) (past_text (codes "<stdlib.h>") bytes) (Some rest) e) [
+      | inl w ↦ let same : drop 9 bytes ≡ rest = let t = w.1 in cc in
+          (codes "<stdio.h>", inl refl, begins_with-is (codes "<stdio.h>") bytes w.0 ∙ ap (λ t. codes "<stdio.h>" ++ t) same)
+      | inr w ↦ (codes "<stdlib.h>", inr refl, past_text-is (codes "<stdlib.h>") bytes rest w.1)
+    ]
 
 past_header-of : (header rest : Bytes) → IsHeader header → past_header (header ++ rest) ≡ Some rest
 unfolding past_header
@@ -145,9 +151,9 @@ unfolding past_comment
 past_comment-is bytes =
     cond_both (begins_with (codes "//") bytes) (drop (line_len bytes) bytes) bytes (λ t. (comment : Bytes) × ((comment ≡ []) ⊎ IsLineComment comment) × (bytes ≡ comment ++ t))
     (λ e.
-        let whole = begins_with-is (codes "//") bytes e in
-        let is_comment = subst (λ t. IsLineComment (take (line_len t) t)) (sym whole) (line_longest (drop 2 bytes)).0 in
-        (take (line_len bytes) bytes, inr is_comment, sym (take-append-drop (line_len bytes) bytes)))
+    let whole = begins_with-is (codes "//") bytes e in
+    let is_comment = subst (λ t. IsLineComment (take (line_len t) t)) (sym whole) (line_longest (drop 2 bytes)).0 in
+    (take (line_len bytes) bytes, inr is_comment, sym (take-append-drop (line_len bytes) bytes)))
     (λ e. ([], inl refl, refl))
 
 line_stops : (rest : Bytes) → EndsLine rest → prefix_len (λ b. not (is_line_feed b)) rest ≡ 0
@@ -164,15 +170,16 @@ past_comment-of comment rest (inl e) ends = rw (e, no_comment rest ends) refl
 past_comment-of comment rest (inr w) ends =
     let body = w.0 in
     let len : line_len (47 ∷ 47 ∷ (body ++ rest)) ≡ suc (suc (length body)) =
-        ap (λ n. 1 + (1 + n)) (prefix_len-stops (λ b. not (is_line_feed b)) body rest w.2 (line_stops rest ends)) ∙ omega arith in
+    ap (λ n. 1 + (1 + n)) (prefix_len-stops (λ b. not (is_line_feed b)) body rest w.2 (line_stops rest ends)) ∙ omega arith in
     rw (w.1, len) (drop_at body rest (length body) refl)
 
 at_line_end-is : (bytes rest : Bytes) → at_line_end bytes ≡ Some rest → (bytes ≡ rest) × EndsLine rest
 at_line_end-is [] rest e = let same : [] ≡ rest = cc in (same, subst EndsLine same tt)
 at_line_end-is (b ∷ bytes) rest e =
-    elim (chosen (is_line_feed b) (Some (b ∷ bytes)) None (Some rest) e)
-    [ inl w ↦ let same : (b ∷ bytes) ≡ rest = let t = w.1 in cc in (same, subst EndsLine same w.0)
-    | inr w ↦ absurd (let t = w.1 in cc) ]
+    elim (chosen (is_line_feed b) (Some (b ∷ bytes)) None (Some rest) e) [
+      | inl w ↦ let same : (b ∷ bytes) ≡ rest = let t = w.1 in cc in (same, subst EndsLine same w.0)
+      | inr w ↦ absurd (let t = w.1 in cc)
+    ]
 
 at_line_end-of : (rest : Bytes) → EndsLine rest → at_line_end rest ≡ Some rest
 at_line_end-of [] e = refl
@@ -190,14 +197,15 @@ past_include-is bytes rest e =
     let after = past_gap-is h.0 in
     let header = past_header-is (past_gap w.0) h.0 h.1 in
     let comment = past_comment-is (past_gap h.0) in
-    let end = at_line_end-is (past_comment (past_gap h.0)) rest h.2 in
-    ( before.0 ++ (codes "include" ++ (between.0 ++ (header.0 ++ (after.0 ++ comment.0))))
-    , record { before = before.0; between = between.0; header = header.0; after = after.0; comment = comment.0; parts = refl; is_before = before.1; is_between = between.1; is_header = header.1; is_after = after.1; is_comment = comment.1 }
-    , before.2 ∙ ap (λ t. before.0 ++ t) (past_text-is (codes "include") (past_gap bytes) w.0 w.1
-        ∙ ap (λ t. codes "include" ++ t) (between.2 ∙ ap (λ t. between.0 ++ t) (header.2
-        ∙ ap (λ t. header.0 ++ t) (after.2 ∙ ap (λ t. after.0 ++ t) (comment.2 ∙ ap (λ t. comment.0 ++ t) end.0)))))
-      ∙ regroup before.0 (codes "include") between.0 header.0 after.0 comment.0 rest
-    , end.1)
+    let end = at_line_end-is (past_comment (past_gap h.0)) rest h.2 in (
+      before.0 ++ (codes "include" ++ (between.0 ++ (header.0 ++ (after.0 ++ comment.0)))),
+      record { before = before.0; between = between.0; header = header.0; after = after.0; comment = comment.0; parts = refl; is_before = before.1; is_between = between.1; is_header = header.1; is_after = after.1; is_comment = comment.1 },
+      before.2 ∙ ap (λ t. before.0 ++ t) (past_text-is (codes "include") (past_gap bytes) w.0 w.1
+          ∙ ap (λ t. codes "include" ++ t) (between.2 ∙ ap (λ t. between.0 ++ t) (header.2
+          ∙ ap (λ t. header.0 ++ t) (after.2 ∙ ap (λ t. after.0 ++ t) (comment.2 ∙ ap (λ t. comment.0 ++ t) end.0)))))
+          ∙ regroup before.0 (codes "include") between.0 header.0 after.0 comment.0 rest,
+      end.1,
+    )
 
 pub past_include-of : (word rest bytes : Bytes) → IsInclude word → EndsLine rest → (35 ∷ bytes) ≡ word ++ rest → past_include bytes ≡ Some rest
 unfolding past_include
@@ -205,8 +213,14 @@ past_include-of word rest bytes i ends e =
     let x3 = i.after ++ (i.comment ++ rest) in
     let x2 = i.between ++ (i.header ++ x3) in
     let whole : (35 ∷ bytes) ≡ 35 ∷ (i.before ++ (codes "include" ++ x2)) =
-        e ∙ ap (λ t. t ++ rest) i.parts ∙ ap (λ t. 35 ∷ t) (sym (regroup i.before (codes "include") i.between i.header i.after i.comment rest)) in
+    e ∙ ap (λ t. t ++ rest) i.parts ∙ ap (λ t. 35 ∷ t) (sym (regroup i.before (codes "include") i.between i.header i.after i.comment rest)) in
     let behind : bytes ≡ i.before ++ (codes "include" ++ x2) = cc in
-    rw (behind, past_gap-of i.before (codes "include" ++ x2) i.is_before (no_gap_word x2), past_gap-of i.between (i.header ++ x3) i.is_between (no_gap_header i.header x3 i.is_header)
-      , past_header-of i.header x3 i.is_header, past_gap-of i.after (i.comment ++ rest) i.is_after (no_gap_line i.comment rest i.is_comment ends), past_comment-of i.comment rest i.is_comment ends)
+    rw (
+      behind,
+      past_gap-of i.before (codes "include" ++ x2) i.is_before (no_gap_word x2),
+      past_gap-of i.between (i.header ++ x3) i.is_between (no_gap_header i.header x3 i.is_header),
+      past_header-of i.header x3 i.is_header,
+      past_gap-of i.after (i.comment ++ rest) i.is_after (no_gap_line i.comment rest i.is_comment ends),
+      past_comment-of i.comment rest i.is_comment ends,
+    )
     (at_line_end-of rest ends)

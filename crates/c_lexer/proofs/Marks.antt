@@ -1,5 +1,5 @@
 -- The longest punctuator.
-use Rattle.std.proofs.Common.{◌≡◌, ℕ, zero, suc, ◌+◌, ◌-◌, ◌≤◌, ◌<◌, ◌⊎◌, Bool, true, false, not, ◌&&◌, ◌||◌, cond, eqb, ltb, leb, get_or, IsSome, is_some, List, [], ◌∷◌, ◌++◌, length, take, drop, Option, Some, None, option_map, refl, ap, sym, ◌∙◌, subst, inl, inr, arith, length-append, length-take-le, append_assoc}
+use Rattle.std.proofs.Common.{◌≡◌, ℕ, suc, ◌+◌, ◌≤◌, ◌<◌, ◌⊎◌, Bool, true, false, not, ◌&&◌, ◌||◌, cond, eqb, ltb, leb, get_or, IsSome, is_some, List, [], ◌∷◌, ◌++◌, length, take, drop, Option, Some, None, refl, ap, sym, ◌∙◌, inl, inr, arith, length-append, length-take-le, append_assoc}
 use Rattle.std.specs.List.{list_all, position, position_or_len}
 use Rattle.std.specs.Char.{is_ascii_digit}
 use Rattle.std.specs.Str.{bytes_eq}
@@ -10,7 +10,6 @@ use Rattle.c_lexer.specs.declared.token.TheConstants.{PUNCTUATORS}
 use Rattle.c_lexer.specs.Tokens.{Bytes, IsLongest, NoFront, IsPunctuator, punctuator_place, is_blank, begins_name, is_quote}
 use Rattle.c_lexer.specs.Scan.{punctuator_of_length, punctuator, or_else}
 use Rattle.c_lexer.proofs.Choices.{chosen, map_some}
-use Rattle.c_lexer.proofs.Fronts.{one_plus}
 
 -- what is true of each entry of a table is true of one that is found
 at_place : {X : Type 0} (p q : X → Bool) (xs : List X) → position_or_len p xs < length xs → list_all q xs ≡ true → (x : X) × (p x ≡ true) × (q x ≡ true)
@@ -73,29 +72,33 @@ of_length_front word tail i e =
 of_length_is : (len : ℕ) (bytes : Bytes) (f : ℕ × ℕ) → punctuator_of_length len bytes ≡ Some f → (punctuator_place (take len bytes) ≡ Some f.0) × (f.1 ≡ len) × (len ≤ length bytes)
 unfolding punctuator_of_length
 of_length_is len bytes f e =
-    elim (chosen (leb len (length bytes)) _ _ _ e)
-    [ inl w ↦
-        let m = map_some (λ place. (place, len)) (punctuator_place (take len bytes)) f w.1 in
-        (m.1 ∙ ap (λ p. Some p.0) m.2, sym (ap (λ p. p.1) m.2), leb-true len (length bytes) w.0)
-    | inr w ↦ absurd (let t = w.1 in cc) ]
+    elim (chosen (leb len (length bytes)) _ _ _ e) [
+      | inl w ↦
+          let m = map_some (λ place. (place, len)) (punctuator_place (take len bytes)) f w.1 in
+          (m.1 ∙ ap (λ p. Some p.0) m.2, sym (ap (λ p. p.1) m.2), leb-true len (length bytes) w.0)
+      | inr w ↦ absurd (let t = w.1 in cc)
+    ]
 
 -- one that is found is the longest, where no longer length finds one
 longest_of : (len : ℕ) (bytes : Bytes) (f : ℕ × ℕ) → punctuator_of_length len bytes ≡ Some f → ((m : ℕ) → len < m → m ≤ 3 → punctuator_of_length m bytes ≡ None)
     → IsLongest IsPunctuator (take f.1 bytes) (drop f.1 bytes) × (punctuator_place (take f.1 bytes) ≡ Some f.0) × (f.1 ≤ length bytes)
 longest_of len bytes f e none =
     let is = of_length_is len bytes f e in
-    let place : punctuator_place (take f.1 bytes) ≡ Some f.0 = rw is.1 is.0 in
-    ( (ap is_some place
-      , λ more tail h i s.
-          let word : Bytes = take f.1 bytes ++ more in
-          let whole : bytes ≡ word ++ tail = sym (take-append-drop f.1 bytes) ∙ ap (λ t. take f.1 bytes ++ t) i ∙ sym (append_assoc (take f.1 bytes) more tail) in
-          let found = some_is (punctuator_place word) s in
-          let len_is : length word ≡ f.1 + length more = omega (arith, length-append (take f.1 bytes) more, length-take-le f.1 bytes (omega (arith, is.1, is.2))) in
-          let again : punctuator_of_length (length word) bytes ≡ Some (found.0, length word) = ap (punctuator_of_length (length word)) whole ∙ of_length_front word tail found.0 found.1 in
-          let nothing = none (length word) (omega (arith, len_is, is.1)) (mark_is word s).short in
-          absurd (cc))
-    , place
-    , omega (arith, is.1, is.2))
+    let place : punctuator_place (take f.1 bytes) ≡ Some f.0 = rw is.1 is.0 in (
+      (
+        ap is_some place,
+        λ more tail h i s.
+            let word : Bytes = take f.1 bytes ++ more in
+            let whole : bytes ≡ word ++ tail = sym (take-append-drop f.1 bytes) ∙ ap (λ t. take f.1 bytes ++ t) i ∙ sym (append_assoc (take f.1 bytes) more tail) in
+            let found = some_is (punctuator_place word) s in
+            let len_is : length word ≡ f.1 + length more = omega (arith, length-append (take f.1 bytes) more, length-take-le f.1 bytes (omega (arith, is.1, is.2))) in
+            let again : punctuator_of_length (length word) bytes ≡ Some (found.0, length word) = ap (punctuator_of_length (length word)) whole ∙ of_length_front word tail found.0 found.1 in
+            let nothing = none (length word) (omega (arith, len_is, is.1)) (mark_is word s).short in
+            absurd (cc),
+      ),
+      place,
+      omega (arith, is.1, is.2),
+    )
 
 pub clash : {A : Type 0} {o : Option A} {x : A} → o ≡ None → o ≡ Some x → ⊥
 clash e i = absurd (cc)
@@ -112,13 +115,16 @@ pub mark_longest : (bytes : Bytes) (f : ℕ × ℕ) → punctuator bytes ≡ Som
     → IsLongest IsPunctuator (take f.1 bytes) (drop f.1 bytes) × (punctuator_place (take f.1 bytes) ≡ Some f.0) × (f.1 ≤ length bytes)
 unfolding punctuator
 mark_longest bytes f e =
-    elim (or_else-some _ _ f e)
-    [ inl three ↦ longest_of 3 bytes f three (λ m h i. absurd (omega arith))
-    | inr w ↦ elim (or_else-some _ _ f w.1)
-        [ inl two ↦ longest_of 2 bytes f two (λ m h i. let is : m ≡ 3 = omega arith in rw is w.0)
-        | inr v ↦ longest_of 1 bytes f v.1 (λ m h i. elim (cases_order m 3)
-            [ inl is ↦ rw is w.0
-            | inr o ↦ let is : m ≡ 2 = elim o [ inl l ↦ omega arith | inr g ↦ absurd (omega arith) ] in rw is v.0 ]) ] ]
+    elim (or_else-some _ _ f e) [
+      | inl three ↦ longest_of 3 bytes f three (λ m h i. absurd (omega arith))
+      | inr w ↦ elim (or_else-some _ _ f w.1) [
+        | inl two ↦ longest_of 2 bytes f two (λ m h i. let is : m ≡ 3 = omega arith in rw is w.0)
+        | inr v ↦ longest_of 1 bytes f v.1 (λ m h i. elim (cases_order m 3) [
+          | inl is ↦ rw is w.0
+          | inr o ↦ let is : m ≡ 2 = elim o [ inl l ↦ omega arith | inr g ↦ absurd (omega arith) ] in rw is v.0
+        ])
+      ]
+    ]
 
 pub mark_none : (bytes : Bytes) → punctuator bytes ≡ None → NoFront IsPunctuator bytes
 unfolding punctuator
@@ -128,8 +134,10 @@ mark_none bytes e = λ word rest i s.
     let found = some_is (punctuator_place word) s in
     let again : punctuator_of_length (length word) bytes ≡ Some (found.0, length word) = ap (punctuator_of_length (length word)) i ∙ of_length_front word rest found.0 found.1 in
     let mark = mark_is word s in
-    elim (cases_order (length word) 2)
-    [ inl is ↦ clash (ap (λ n. punctuator_of_length n bytes) is ∙ both.0) again
-    | inr o ↦ elim o
-        [ inl less ↦ let is : length word ≡ 1 = omega (arith, mark.some) in clash (ap (λ n. punctuator_of_length n bytes) is ∙ both.1) again
-        | inr more ↦ let is : length word ≡ 3 = omega (arith, mark.short) in clash (ap (λ n. punctuator_of_length n bytes) is ∙ outer.0) again ] ]
+    elim (cases_order (length word) 2) [
+      | inl is ↦ clash (ap (λ n. punctuator_of_length n bytes) is ∙ both.0) again
+      | inr o ↦ elim o [
+        | inl less ↦ let is : length word ≡ 1 = omega (arith, mark.some) in clash (ap (λ n. punctuator_of_length n bytes) is ∙ both.1) again
+        | inr more ↦ let is : length word ≡ 3 = omega (arith, mark.short) in clash (ap (λ n. punctuator_of_length n bytes) is ∙ outer.0) again
+      ]
+    ]

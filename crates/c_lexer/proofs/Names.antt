@@ -1,8 +1,8 @@
 -- Names, numbers and line comments: each is the longest of its kind.
-use Rattle.std.proofs.Common.{◌≡◌, ℕ, zero, suc, ◌+◌, ◌-◌, ◌≤◌, ◌<◌, ◌⊎◌, Bool, true, false, not, ◌&&◌, ◌||◌, cond, eqb, IsTrue, List, [], ◌∷◌, ◌++◌, length, take, drop, refl, ap, sym, ◌∙◌, subst, inl, inr, arith, rules}
+use Rattle.std.proofs.Common.{◌≡◌, ℕ, suc, ◌+◌, ◌<◌, Bool, true, false, not, [], ◌∷◌, ◌++◌, length, take, drop, refl, ap, sym, ◌∙◌, arith}
 use Rattle.std.specs.List.{prefix_len, list_all}
-use Rattle.std.specs.Char.{is_ascii_digit, is_ascii_alphabetic, is_ascii_alphanumeric}
-use Rattle.std.proofs.lemmas.Bool.{cond_both, and_from, and_parts, and_left, false≢true}
+use Rattle.std.specs.Char.{is_ascii_digit}
+use Rattle.std.proofs.lemmas.Bool.{cond_both, and_from, and_left, false≢true}
 use Rattle.std.proofs.lemmas.Bool.Decides.{nat_tests}
 use Rattle.c_lexer.specs.Tokens.{Bytes, IsLongest, IsName, IsNumber, IsLineComment, begins_name, continues_name, continues_number, goes_on, is_line_feed}
 use Rattle.c_lexer.specs.Scan.{number_len, line_len}
@@ -15,19 +15,21 @@ name_continues b e = grind (arith, nat_tests)
 pub name_longest : (b : ℕ) (bytes : Bytes) → begins_name b ≡ true
     → IsLongest IsName (take (prefix_len continues_name (b ∷ bytes)) (b ∷ bytes)) (drop (prefix_len continues_name (b ∷ bytes)) (b ∷ bytes))
 name_longest b bytes e =
-    rw (name_continues b e, one_plus (prefix_len continues_name bytes))
-    ( (e, all_prefix continues_name bytes)
-    , λ more tail h i s. absurd (false≢true (sym (past_prefix continues_name bytes more tail h i) ∙ list_all-append continues_name (take (prefix_len continues_name bytes) bytes) more s.1)))
+    rw (name_continues b e, one_plus (prefix_len continues_name bytes)) (
+      (e, all_prefix continues_name bytes),
+      λ more tail h i s. absurd (false≢true (sym (past_prefix continues_name bytes more tail h i) ∙ list_all-append continues_name (take (prefix_len continues_name bytes) bytes) more s.1)),
+    )
 
 pub line_longest : (bytes : Bytes)
     → IsLongest IsLineComment (take (line_len (47 ∷ 47 ∷ bytes)) (47 ∷ 47 ∷ bytes)) (drop (line_len (47 ∷ 47 ∷ bytes)) (47 ∷ 47 ∷ bytes))
 line_longest bytes =
     let p : ℕ → Bool = λ b. not (is_line_feed b) in
-    rw (one_plus (1 + prefix_len p bytes), one_plus (prefix_len p bytes))
-    ( (take (prefix_len p bytes) bytes, refl, all_prefix p bytes)
-    , λ more tail h i s.
-        let same : take (prefix_len p bytes) bytes ++ more ≡ s.0 = let t = s.1 in cc in
-        absurd (false≢true (sym (past_prefix p bytes more tail h i) ∙ list_all-append p (take (prefix_len p bytes) bytes) more (ap (list_all p) same ∙ s.2))))
+    rw (one_plus (1 + prefix_len p bytes), one_plus (prefix_len p bytes)) (
+      (take (prefix_len p bytes) bytes, refl, all_prefix p bytes),
+      λ more tail h i s.
+          let same : take (prefix_len p bytes) bytes ++ more ≡ s.0 = let t = s.1 in cc in
+          absurd (false≢true (sym (past_prefix p bytes more tail h i) ∙ list_all-append p (take (prefix_len p bytes) bytes) more (ap (list_all p) same ∙ s.2))),
+    )
 
 pub goes_on_all : (last : ℕ) (bytes : Bytes) → goes_on last (take (number_len last bytes) bytes) ≡ true
 goes_on_all last [] = refl

@@ -1,19 +1,15 @@
 -- What is found at the front is a piece or a fault.
-use Rattle.std.proofs.Common.{◌≡◌, ℕ, zero, suc, ◌+◌, ◌-◌, ◌≤◌, ◌<◌, ◌⊎◌, Bool, true, false, not, ◌&&◌, ◌||◌, cond, eqb, IsTrue, is_some, List, [], ◌∷◌, ◌++◌, length, take, drop, codes, Option, Some, None, option_map, ok_or, Result, Ok, Err, refl, ap, sym, ◌∙◌, subst, inl, inr, arith, length-append, length-drop, append_assoc}
+use Rattle.std.proofs.Common.{◌≡◌, ℕ, suc, ◌+◌, ◌-◌, ◌⊎◌, Bool, true, false, ◌&&◌, ◌||◌, eqb, is_some, [], ◌∷◌, ◌++◌, length, take, drop, codes, Option, Some, None, option_map, ok_or, Ok, Err, refl, ap, sym, ◌∙◌, subst, inl, inr, arith, length-append, append_assoc}
 use Rattle.std.specs.List.{prefix_len}
 use Rattle.std.specs.Char.{is_ascii_digit}
 use Rattle.std.proofs.lemmas.List.{take_at, drop_at, take-append-drop}
 use Rattle.std.proofs.lemmas.Bool.{cond_both, eqb-true, or_cases, or_from, and_parts}
 use Rattle.srmt_base.specs.declared.ty.Ty.{Ty}
-use Rattle.c_lexer.specs.declared.token.TokenKind.{TokenKind}
-use Rattle.c_lexer.specs.declared.token.TokenKind.TheVariants.{Keyword, Name, Number, Character, Text, Punct}
-use Rattle.c_lexer.specs.declared.token.LexRefusal.{LexRefusal}
-use Rattle.c_lexer.specs.declared.token.LexRefusal.TheVariants.{BadByte, OpenComment, OpenText, BadText, BadNumber, LiteralTooWide, Directive}
-use Rattle.c_lexer.specs.declared.piece.Piece.{Piece}
-use Rattle.c_lexer.specs.declared.piece.Piece.TheVariants.{Blank, LineComment, BlockComment, Include, Lexeme}
-use Rattle.c_lexer.specs.Tokens.{Bytes, IsLongest, NoFront, IsName, IsNumber, IsQuoted, IsPunctuator, IsInclude, EndsLine, IsToken, IsPiece, IsFault, IsBadQuoted, begins_with, begins_comment, is_blank, is_line_feed, begins_name, continues_name, keyword_place, is_constant, constant_type, constant_value, is_quote, is_body, inner, decoded, one_byte, character_value}
+use Rattle.c_lexer.specs.declared.token.TokenKind.TheVariants.{Number, Character, Text, Punct}
+use Rattle.c_lexer.specs.declared.token.LexRefusal.TheVariants.{BadByte, OpenComment, BadText, BadNumber, LiteralTooWide, Directive}
+use Rattle.c_lexer.specs.declared.piece.Piece.TheVariants.{LineComment, BlockComment, Include, Lexeme}
+use Rattle.c_lexer.specs.Tokens.{Bytes, IsLongest, NoFront, IsName, IsNumber, IsQuoted, IsInclude, EndsLine, IsToken, IsPiece, IsFault, begins_with, begins_comment, is_blank, is_line_feed, begins_name, continues_name, keyword_place, is_constant, constant_type, constant_value, is_quote, inner, decoded, one_byte, character_value}
 use Rattle.c_lexer.specs.Scan.{Found, comment_end, line_len, block_comment, past_include, directive, name_kind, name, number_len, number_kind, with_len, number, closing, quoted_kind, closed, quoted, punctuator, mark, front}
-use Rattle.c_lexer.proofs.Fronts.{one_plus}
 use Rattle.c_lexer.proofs.Comments.{comment_shortest, comment_none}
 use Rattle.c_lexer.proofs.Names.{name_longest, number_longest, line_longest}
 use Rattle.c_lexer.proofs.Quotes.{closing_is, closing_body}
@@ -63,9 +59,10 @@ pub quote_is : (b : ℕ) → is_quote b ≡ true → (b ≡ 39) ⊎ (b ≡ 34)
 quote_is b e = elim (or_cases (eqb b 39) (eqb b 34) e) [ inl w ↦ inl (eqb-true b 39 w) | inr w ↦ inr (eqb-true b 34 w) ]
 
 pub quote_mark : (b : ℕ) → is_quote b ≡ true → IsMark b
-quote_mark b e = elim (quote_is b e) as (λ _. IsMark b)
-    [ inl w ↦ subst IsMark (sym w) record { quotes = refl; slash = refl; line = refl; same = refl }
-    | inr w ↦ subst IsMark (sym w) record { quotes = refl; slash = refl; line = refl; same = refl } ]
+quote_mark b e = elim (quote_is b e) as (λ _. IsMark b) [
+  | inl w ↦ subst IsMark (sym w) record { quotes = refl; slash = refl; line = refl; same = refl }
+  | inr w ↦ subst IsMark (sym w) record { quotes = refl; slash = refl; line = refl; same = refl }
+]
 
 pub inner-is : (quote : ℕ) (body : Bytes) → inner (quote ∷ (body ++ (quote ∷ []))) ≡ body
 inner-is quote body =
@@ -107,19 +104,20 @@ closed_right : (first : Bool) (at b : ℕ) (bytes : Bytes) (o : Option ℕ) → 
 unfolding quoted_kind
 closed_right first at b bytes None q e = (refl, q, no_quoted b bytes (quote_mark b q) e)
 closed_right first at b bytes (Some len) q e =
-    elim (quote_is b q) as (λ _. Right first at (b ∷ bytes) (closed at b bytes (Some len)))
-    [ inl is ↦
-        let word = quoted_word b len bytes (quote_mark b q) e in
-        subst (λ c. IsQuoted c (take (len + 2) (c ∷ bytes)) × (inner (take (len + 2) (c ∷ bytes)) ≡ take len bytes) → Right first at (c ∷ bytes) (closed at c bytes (Some len))) (sym is)
-        (λ w. subst (λ body. Right first at (39 ∷ bytes) (with_len (len + 2) (ok_or (option_map (λ d. Character (character_value d)) (one_byte body)) (BadText at)))) w.1
-            (character_right first at (len + 2) (39 ∷ bytes) (one_byte (inner (take (len + 2) (39 ∷ bytes)))) w.0 refl))
-        word
-    | inr is ↦
-        let word = quoted_word b len bytes (quote_mark b q) e in
-        subst (λ c. IsQuoted c (take (len + 2) (c ∷ bytes)) × (inner (take (len + 2) (c ∷ bytes)) ≡ take len bytes) → Right first at (c ∷ bytes) (closed at c bytes (Some len))) (sym is)
-        (λ w. subst (λ body. Right first at (34 ∷ bytes) (with_len (len + 2) (ok_or (option_map (λ d. Text) (decoded body)) (BadText at)))) w.1
-            (text_right first at (len + 2) (34 ∷ bytes) (decoded (inner (take (len + 2) (34 ∷ bytes)))) w.0 refl))
-        word ]
+    elim (quote_is b q) as (λ _. Right first at (b ∷ bytes) (closed at b bytes (Some len))) [
+      | inl is ↦
+          let word = quoted_word b len bytes (quote_mark b q) e in
+          subst (λ c. IsQuoted c (take (len + 2) (c ∷ bytes)) × (inner (take (len + 2) (c ∷ bytes)) ≡ take len bytes) → Right first at (c ∷ bytes) (closed at c bytes (Some len))) (sym is)
+          (λ w. subst (λ body. Right first at (39 ∷ bytes) (with_len (len + 2) (ok_or (option_map (λ d. Character (character_value d)) (one_byte body)) (BadText at)))) w.1
+          (character_right first at (len + 2) (39 ∷ bytes) (one_byte (inner (take (len + 2) (39 ∷ bytes)))) w.0 refl))
+          word
+      | inr is ↦
+          let word = quoted_word b len bytes (quote_mark b q) e in
+          subst (λ c. IsQuoted c (take (len + 2) (c ∷ bytes)) × (inner (take (len + 2) (c ∷ bytes)) ≡ take len bytes) → Right first at (c ∷ bytes) (closed at c bytes (Some len))) (sym is)
+          (λ w. subst (λ body. Right first at (34 ∷ bytes) (with_len (len + 2) (ok_or (option_map (λ d. Text) (decoded body)) (BadText at)))) w.1
+          (text_right first at (len + 2) (34 ∷ bytes) (decoded (inner (take (len + 2) (34 ∷ bytes)))) w.0 refl))
+          word
+    ]
 
 quoted_right : (first : Bool) (at b : ℕ) (bytes : Bytes) → is_quote b ≡ true → Right first at (b ∷ bytes) (quoted at (b ∷ bytes))
 unfolding quoted
@@ -182,4 +180,4 @@ front_right first at b bytes =
     (λ line. cond_both (begins_with (codes "/*") (b ∷ bytes)) _ _ P (λ e. block_right first at (b ∷ bytes) e)
     (λ block. cond_both (first && eqb b 35) _ _ P (λ e. hash_right first at b bytes e)
     (λ hash. marked_right first at b bytes (punctuator (b ∷ bytes)) refl
-        (or_from _ _ (or_from _ _ (or_from _ _ (or_from _ _ blank named) digit) quote) hash) (or_from _ _ line block))))))))
+    (or_from _ _ (or_from _ _ (or_from _ _ (or_from _ _ blank named) digit) quote) hash) (or_from _ _ line block))))))))

@@ -1,5 +1,5 @@
 -- A source: one list of tokens or one fault at most, and how a source goes on behind a piece.
-use Rattle.std.proofs.Common.{◌≡◌, ℕ, zero, suc, ◌+◌, ◌-◌, ◌≤◌, ◌<◌, ◌≢◌, ◌⊎◌, Bool, true, false, List, [], ◌∷◌, ◌++◌, length, take, drop, Result, Ok, Err, IfErr, MatchResult, refl, ap, sym, ◌∙◌, subst, inl, arith, append-nil, length-append, length-take-le, append_assoc}
+use Rattle.std.proofs.Common.{◌≡◌, ℕ, ◌+◌, ◌≤◌, ◌<◌, ◌≢◌, ◌⊎◌, Bool, true, false, List, [], ◌∷◌, ◌++◌, length, take, drop, Result, Ok, Err, IfErr, MatchResult, refl, ap, sym, ◌∙◌, subst, inl, arith, append-nil, length-take-le, append_assoc}
 use Rattle.std.proofs.lemmas.List.{take_at, drop_at, take-append-drop, nil_from_length}
 use Rattle.c_lexer.specs.declared.token.Token.{Token}
 use Rattle.c_lexer.specs.declared.token.LexRefusal.{LexRefusal}
@@ -26,10 +26,11 @@ piece_once first p q word other rest tail bytes e f i j =
     let both : ◌≡◌ {A = Piece × ℕ} (p, length word) (q, length other) = cc in
     let kinds : p ≡ q = ap (λ x. x.0) both in
     let lengths : length word ≡ length other = ap (λ x. x.1) both in
-    let whole : word ++ rest ≡ other ++ tail = sym e ∙ f in
-    ( kinds
-    , sym (take_at word rest (length word) refl) ∙ ap (take (length word)) whole ∙ take_at other tail (length word) (sym lengths)
-    , sym (drop_at word rest (length word) refl) ∙ ap (drop (length word)) whole ∙ drop_at other tail (length word) (sym lengths))
+    let whole : word ++ rest ≡ other ++ tail = sym e ∙ f in (
+      kinds,
+      sym (take_at word rest (length word) refl) ∙ ap (take (length word)) whole ∙ take_at other tail (length word) (sym lengths),
+      sym (drop_at word rest (length word) refl) ∙ ap (drop (length word)) whole ∙ drop_at other tail (length word) (sym lengths),
+    )
 
 -- where this holds, no piece stands
 abbrev pub Ends : (Bool → Bytes → Type 0) → Type 0
@@ -56,7 +57,7 @@ cuts_once S T s t first (p ∷ ps) (q ∷ qs) bytes c d =
     let same = piece_once first p.0 q.0 p.1 q.1 c.0 d.0 bytes c.1 d.1 c.2 d.2 in
     let heads : p ≡ q = pair_same p q same.0 same.1 in
     let rests : Cuts T (first_after first p.0 p.1) qs c.0 =
-        subst (λ r. Cuts T (first_after first p.0 p.1) qs r) (sym same.2) (subst (λ x. Cuts T (first_after first x.0 x.1) qs d.0) (sym heads) d.3) in
+    subst (λ r. Cuts T (first_after first p.0 p.1) qs r) (sym same.2) (subst (λ x. Cuts T (first_after first x.0 x.1) qs d.0) (sym heads) d.3) in
     let later = cuts_once S T s t (first_after first p.0 p.1) ps qs c.0 c.3 rests in
     (let tails = later.0 in cc, later.1)
 
@@ -67,7 +68,7 @@ lexes_once first at line bytes tokens others l m =
 pub refuses_once : (first : Bool) (at : ℕ) (bytes : Bytes) (refusal other : LexRefusal) → RefusesFrom first at bytes refusal → RefusesFrom first at bytes other → refusal ≡ other
 refuses_once first at bytes refusal other l m =
     let both = cuts_once (λ here rest. IsFault here (at + length_of l.0) rest refusal) (λ here rest. IsFault here (at + length_of m.0) rest other)
-        (IsFault-ends (at + length_of l.0) refusal) (IsFault-ends (at + length_of m.0) other) first l.0 m.0 bytes l.1 m.1 in
+    (IsFault-ends (at + length_of l.0) refusal) (IsFault-ends (at + length_of m.0) other) first l.0 m.0 bytes l.1 m.1 in
     let last = both.1 in
     let a = fault_again last.0 (at + length_of l.0) last.1 refusal last.2 in
     let b = ap (λ ps. front last.0 (at + length_of ps) last.1) both.0 ∙ fault_again last.0 (at + length_of m.0) last.1 other last.3 in
@@ -106,18 +107,24 @@ tokens_more (Lexeme kind) word at line n ps e = ap (λ k. record { kind = kind; 
 pub lexes_more : (first : Bool) (at line : ℕ) (bytes : Bytes) (piece : Piece) (n : ℕ) (tokens : List Token) → 0 < length bytes → n ≤ length bytes → front first at bytes ≡ Ok (piece, n)
     → LexesFrom (first_after first piece (take n bytes)) (at + n) (line + line_feeds (take n bytes)) (drop n bytes) tokens
     → LexesFrom first at line bytes (token_at piece at line (at + n) ++ tokens)
-lexes_more first at line bytes piece n tokens h fits e l =
-    ( (piece, take n bytes) ∷ l.0
-    , (drop n bytes, sym (take-append-drop n bytes), found_piece first at bytes piece n h e, l.1)
-    , ap (λ t. token_at piece at line (at + n) ++ t) l.2 ∙ sym (tokens_more piece (take n bytes) at line n l.0 (length-take-le n bytes fits)))
+lexes_more first at line bytes piece n tokens h fits e l = (
+  (piece, take n bytes) ∷ l.0,
+  (drop n bytes, sym (take-append-drop n bytes), found_piece first at bytes piece n h e, l.1),
+  ap (λ t. token_at piece at line (at + n) ++ t) l.2 ∙ sym (tokens_more piece (take n bytes) at line n l.0 (length-take-le n bytes fits)),
+)
 
 pub refuses_more : (first : Bool) (at : ℕ) (bytes : Bytes) (piece : Piece) (n : ℕ) (refusal : LexRefusal) → 0 < length bytes → n ≤ length bytes → front first at bytes ≡ Ok (piece, n)
     → RefusesFrom (first_after first piece (take n bytes)) (at + n) (drop n bytes) refusal → RefusesFrom first at bytes refusal
 refuses_more first at bytes piece n refusal h fits e r =
-    let place : at + n + length_of r.0 ≡ at + (length (take n bytes) + length_of r.0) = omega (arith, length-take-le n bytes fits) in
-    ( (piece, take n bytes) ∷ r.0
-    , (drop n bytes, sym (take-append-drop n bytes), found_piece first at bytes piece n h e
-      , subst (λ k. Cuts (λ here rest. IsFault here k rest refusal) (first_after first piece (take n bytes)) r.0 (drop n bytes)) place r.1))
+    let place : at + n + length_of r.0 ≡ at + (length (take n bytes) + length_of r.0) = omega (arith, length-take-le n bytes fits) in (
+      (piece, take n bytes) ∷ r.0,
+      (
+        drop n bytes,
+        sym (take-append-drop n bytes),
+        found_piece first at bytes piece n h e,
+        subst (λ k. Cuts (λ here rest. IsFault here k rest refusal) (first_after first piece (take n bytes)) r.0 (drop n bytes)) place r.1,
+      ),
+    )
 
 pub refuses_now : (first : Bool) (at : ℕ) (bytes : Bytes) (refusal : LexRefusal) → IsFault first at bytes refusal → RefusesFrom first at bytes refusal
 refuses_now first at bytes refusal f = let place : at ≡ at + 0 = omega arith in ([], subst (λ k. IsFault first k bytes refusal) place f)

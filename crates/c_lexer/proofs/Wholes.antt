@@ -1,6 +1,5 @@
 -- Whole sources: each has tokens or a fault, and its tokens lie in it.
-use Rattle.std.proofs.Common.{◌≡◌, ℕ, zero, suc, ◌+◌, ◌-◌, ◌≤◌, ◌<◌, ◌⊎◌, Bool, true, false, IsSome, List, [], ◌∷◌, ◌++◌, length, take, drop, Result, Ok, Err, refl, ap, sym, ◌∙◌, subst, inl, inr, arith, length-append, length-take-le, length-drop}
-use Rattle.std.specs.List.{AllByRecursion}
+use Rattle.std.proofs.Common.{◌≡◌, ℕ, zero, suc, ◌+◌, ◌-◌, ◌≤◌, ◌<◌, ◌⊎◌, Bool, true, false, IsSome, List, [], ◌∷◌, ◌++◌, length, take, drop, Ok, Err, refl, ap, sym, ◌∙◌, subst, inl, inr, arith, length-append, length-drop}
 use Rattle.std.proofs.lemmas.List.{take_at, drop_at, take-append-drop, drop-drop}
 use Rattle.c_lexer.specs.declared.token.Token.{Token}
 use Rattle.c_lexer.specs.declared.token.TokenKind.{TokenKind}
@@ -8,7 +7,7 @@ use Rattle.c_lexer.specs.declared.token.TokenKind.TheVariants.{Keyword, Name, Nu
 use Rattle.c_lexer.specs.declared.token.LexRefusal.{LexRefusal}
 use Rattle.c_lexer.specs.declared.piece.Piece.{Piece}
 use Rattle.c_lexer.specs.declared.piece.Piece.TheVariants.{Blank, LineComment, BlockComment, Include, Lexeme}
-use Rattle.c_lexer.specs.Tokens.{Bytes, IsToken, IsPiece, Cuts, AtEnd, first_after, line_feeds, tokens_of, LexesFrom, Lexes, RefusesFrom, Refuses, LieWithin, HaveBytes, text_bytes, decoded, inner}
+use Rattle.c_lexer.specs.Tokens.{Bytes, IsToken, IsPiece, Cuts, AtEnd, first_after, line_feeds, tokens_of, LexesFrom, Lexes, RefusesFrom, Refuses, LieWithin, HaveBytes, decoded, inner}
 use Rattle.c_lexer.specs.Scan.{Found, front, token_at}
 use Rattle.c_lexer.proofs.Marks.{mark_is}
 use Rattle.c_lexer.proofs.Again.{piece_again}
@@ -66,8 +65,8 @@ reads_within len first at line [] h = inl ([], lexes_now first at line)
 reads_within zero first at line (b ∷ bytes) h = absurd (omega arith)
 reads_within (suc len) first at line (b ∷ bytes) h =
     reads_by first at line (b ∷ bytes) (omega arith)
-        (λ piece n some fits. reads_within len (first_after first piece (take n (b ∷ bytes))) (at + n) (line + line_feeds (take n (b ∷ bytes))) (drop n (b ∷ bytes)) (omega (arith, length-drop n (b ∷ bytes))))
-        (front first at (b ∷ bytes)) refl
+    (λ piece n some fits. reads_within len (first_after first piece (take n (b ∷ bytes))) (at + n) (line + line_feeds (take n (b ∷ bytes))) (drop n (b ∷ bytes)) (omega (arith, length-drop n (b ∷ bytes))))
+    (front first at (b ∷ bytes)) refl
 
 pub lexes_or_fails : (source : Bytes) → ((list : List Token) × Lexes source list) ⊎ ((fault : LexRefusal) × Refuses source fault)
 lexes_or_fails source = reads_within (length source) true 0 1 source (omega arith)
@@ -88,11 +87,12 @@ lie_within first at line to ((BlockComment, word) ∷ ps) bytes c e =
     lie_from at (at + length word) to (tokens_of (at + length word) (line + line_feeds word) ps) (omega arith) (lie_within (first_after first BlockComment word) (at + length word) (line + line_feeds word) to ps c.0 c.3 (omega (arith, ap length c.1, length-append word c.0)))
 lie_within first at line to ((Include, word) ∷ ps) bytes c e =
     lie_from at (at + length word) to (tokens_of (at + length word) (line + line_feeds word) ps) (omega arith) (lie_within (first_after first Include word) (at + length word) (line + line_feeds word) to ps c.0 c.3 (omega (arith, ap length c.1, length-append word c.0)))
-lie_within first at line to ((Lexeme kind, word) ∷ ps) bytes c e =
-    ( omega arith
-    , omega (arith, token_some kind word c.0 c.2)
-    , omega (arith, ap length c.1, length-append word c.0)
-    , lie_within false (at + length word) (line + line_feeds word) to ps c.0 c.3 (omega (arith, ap length c.1, length-append word c.0)))
+lie_within first at line to ((Lexeme kind, word) ∷ ps) bytes c e = (
+  omega arith,
+  omega (arith, token_some kind word c.0 c.2),
+  omega (arith, ap length c.1, length-append word c.0),
+  lie_within false (at + length word) (line + line_feeds word) to ps c.0 c.3 (omega (arith, ap length c.1, length-append word c.0)),
+)
 
 pub lexes_within : (source : Bytes) (tokens : List Token) → Lexes source tokens → LieWithin 0 (length source) tokens
 lexes_within source tokens l = subst (LieWithin 0 (length source)) (sym l.2) (lie_within true 0 1 (length source) l.0 source l.1 (omega arith))
@@ -121,9 +121,10 @@ have_bytes source first at line ((Blank, word) ∷ ps) bytes c e = have_bytes so
 have_bytes source first at line ((LineComment, word) ∷ ps) bytes c e = have_bytes source (first_after first LineComment word) (at + length word) (line + line_feeds word) ps c.0 c.3 (behind source word c.0 at (e ∙ c.1))
 have_bytes source first at line ((BlockComment, word) ∷ ps) bytes c e = have_bytes source (first_after first BlockComment word) (at + length word) (line + line_feeds word) ps c.0 c.3 (behind source word c.0 at (e ∙ c.1))
 have_bytes source first at line ((Include, word) ∷ ps) bytes c e = have_bytes source (first_after first Include word) (at + length word) (line + line_feeds word) ps c.0 c.3 (behind source word c.0 at (e ∙ c.1))
-have_bytes source first at line ((Lexeme kind, word) ∷ ps) bytes c e =
-    ( λ t. subst (λ w. IsSome (decoded (inner w))) (sym (word_at source word c.0 at (e ∙ c.1))) (text_some kind word c.0 c.2 t)
-    , have_bytes source false (at + length word) (line + line_feeds word) ps c.0 c.3 (behind source word c.0 at (e ∙ c.1)))
+have_bytes source first at line ((Lexeme kind, word) ∷ ps) bytes c e = (
+  λ t. subst (λ w. IsSome (decoded (inner w))) (sym (word_at source word c.0 at (e ∙ c.1))) (text_some kind word c.0 c.2 t),
+  have_bytes source false (at + length word) (line + line_feeds word) ps c.0 c.3 (behind source word c.0 at (e ∙ c.1)),
+)
 
 pub lexes_have : (source : Bytes) (tokens : List Token) → Lexes source tokens → HaveBytes source tokens
 lexes_have source tokens l = subst (HaveBytes source) (sym l.2) (have_bytes source true 0 1 l.0 source l.1 refl)

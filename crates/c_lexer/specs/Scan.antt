@@ -1,9 +1,8 @@
 -- What each function of the code finds at the front of the bytes, list to list. No public clause rests on these
 -- functions: the laws in proofs/ tie them to the sets of `Tokens`, in both directions.
-use Rattle.std.specs.Prelude.{◌≡◌, ℕ, suc, zero, ◌+◌, ◌-◌, ◌^◌, Bool, true, false, not, ◌&&◌, ◌||◌, if◌then◌else◌, ◌==◌, nat_eq, nat_lt, nat_le, List, [], ◌∷◌, length, take, drop, slice_index, Option, Some, None, option_map, option_and_then, unwrap_or, ok_or, Result, Ok, Err, codes}
+use Rattle.std.specs.Prelude.{ℕ, suc, zero, ◌+◌, ◌-◌, Bool, true, false, not, ◌&&◌, if◌then◌else◌, ◌==◌, nat_lt, nat_le, List, [], ◌∷◌, length, take, drop, slice_index, Option, Some, None, option_map, option_and_then, unwrap_or, ok_or, Result, Ok, Err, codes}
 use Rattle.std.specs.Char.{is_ascii_digit}
 use Rattle.std.specs.List.{prefix_len}
-use Rattle.srmt_base.specs.declared.ty.Ty.{Ty}
 use Rattle.c_lexer.specs.declared.token.Token.{Token}
 use Rattle.c_lexer.specs.declared.token.TokenKind.{TokenKind}
 use Rattle.c_lexer.specs.declared.token.TokenKind.TheVariants.{Keyword, Name, Number, Character, Text, Punct}
@@ -11,7 +10,7 @@ use Rattle.c_lexer.specs.declared.token.LexRefusal.{LexRefusal}
 use Rattle.c_lexer.specs.declared.token.LexRefusal.TheVariants.{BadByte, OpenComment, OpenText, BadText, BadNumber, LiteralTooWide, Directive}
 use Rattle.c_lexer.specs.declared.piece.Piece.{Piece}
 use Rattle.c_lexer.specs.declared.piece.Piece.TheVariants.{Blank, LineComment, BlockComment, Include, Lexeme}
-use Rattle.c_lexer.specs.Tokens.{Bytes, begins_with, is_blank, is_line_feed, is_blank_in_line, begins_name, continues_name, keyword_place, punctuator_place, continues_number, is_constant, constant_type, constant_value, is_quote, inner, decoded, one_byte, character_value}
+use Rattle.c_lexer.specs.Tokens.{Bytes, begins_with, is_blank, is_line_feed, is_blank_in_line, begins_name, continues_name, keyword_place, punctuator_place, continues_number, is_constant, constant_type, constant_value, is_quote, decoded, one_byte, character_value}
 
 -- a piece, and how many bytes it has
 abbrev pub Found : Type 0

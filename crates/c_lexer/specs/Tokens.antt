@@ -3,7 +3,7 @@
 -- A source is cut into pieces from the left: blanks, comments, the two `#include` lines, and tokens. What is a
 -- piece is said by sets of spellings; a piece is the longest front of the remaining bytes in its set, a comment
 -- the shortest. A source with no such cut has exactly one fault, at its first place that has no piece.
-use Rattle.std.specs.Prelude.{◌≡◌, ◌≢◌, ℕ, suc, zero, ◌+◌, ◌-◌, ◌*◌, ◌^◌, ◌<◌, ◌≤◌, ◌⊎◌, Bool, true, false, not, ◌&&◌, ◌||◌, if◌then◌else◌, ◌==◌, nat_eq, nat_lt, nat_le, IsTrue, IsSome, List, [], ◌∷◌, ◌++◌, length, take, drop, fold, count_by, position, slice_index, Option, Some, None, option_map, option_and_then, codes, bytes_eq}
+use Rattle.std.specs.Prelude.{◌≡◌, ℕ, suc, zero, ◌+◌, ◌-◌, ◌*◌, ◌^◌, ◌<◌, ◌≤◌, ◌⊎◌, Bool, true, false, not, ◌&&◌, ◌||◌, if◌then◌else◌, ◌==◌, nat_eq, nat_lt, IsTrue, IsSome, List, [], ◌∷◌, ◌++◌, length, take, drop, fold, count_by, position, slice_index, Option, Some, None, option_map, option_and_then, codes, bytes_eq}
 use Rattle.std.specs.Char.{is_ascii_alphabetic, is_ascii_alphanumeric, is_ascii_digit, is_digit, digit_value}
 use Rattle.std.specs.Int.{is_in_range}
 use Rattle.std.specs.List.{list_all, prefix_len, starts_with, concat, AllByRecursion}
@@ -225,14 +225,19 @@ abbrev pub first_byte : Bytes → Option (ℕ × ℕ)
 first_byte [] = None
 first_byte (b ∷ bytes) = if b == 92 then escape bytes else Some (b, 1)
 
--- the bytes that a body of at most so many bytes means
+-- A body means these bytes, one after the other.
+abbrev pub Means : Bytes → Bytes → Type 0
+Means body [] = body ≡ []
+Means body (b ∷ bytes) = (len : ℕ) × (first_byte body ≡ Some (b, len)) × Means (drop len body) bytes
+
+-- The same as a function, for which a body has at most so many bytes; each byte takes one at least.
 abbrev pub decoded_within : ℕ → Bytes → Option Bytes
 decoded_within n [] = Some []
 decoded_within zero (b ∷ bytes) = None
 decoded_within (suc n) (b ∷ bytes) =
     option_and_then (λ first. option_map (λ others. first.0 ∷ others) (decoded_within n (drop first.1 (b ∷ bytes)))) (first_byte (b ∷ bytes))
 
--- the bytes that a body means, where each escape is known and below 256
+-- the bytes that a body means, if there are any: where each escape is known and below 256
 unfoldable pub decoded : Bytes → Option Bytes
 decoded body = decoded_within (length body) body
 

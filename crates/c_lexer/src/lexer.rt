@@ -7,8 +7,6 @@ ghost use Rattle.c_lexer.specs.declared.token.LexRefusal.{LexRefusal};
 ghost use Rattle.c_lexer.specs.Tokens as tokens;
 ghost use Rattle.c_lexer.specs.Scan as spec;
 
-use std::alloc::Global;
-
 use crate::bytes::{begins_name, is_blank, is_line_feed};
 use crate::number::number;
 use crate::piece::Piece;
@@ -16,6 +14,7 @@ use crate::quoted::quoted;
 use crate::space::{block_comment, directive, line_len};
 use crate::token::{LexRefusal, Token};
 use crate::word::{mark, name};
+use std::alloc::Global;
 
 /// The piece that the bytes begin, and its length. They lie at a place of the source, and perhaps only blanks
 /// and comments stand before them on their line.

@@ -12,6 +12,8 @@ mod number;
 mod piece;
 mod quoted;
 mod space;
+#[cfg(test)]
+mod tests;
 mod token;
 mod word;
 

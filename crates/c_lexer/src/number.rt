@@ -6,11 +6,10 @@ ghost use Rattle.c_lexer.specs.Scan as spec;
 ghost use Rattle.std.specs.List.{list_all};
 ghost use Rattle.std.specs.Char.{is_digit, is_ascii_digit};
 
-use srmt_base::Ty;
-
 use crate::bytes::{byte_at, continues_number, digit_value};
 use crate::piece::Piece;
 use crate::token::{LexRefusal, TokenKind};
+use srmt_base::Ty;
 
 /// The value of the digits, and 2^32 for all that are no less.
 pub fn value_in(base: u8, digits: &[u8]) -> u64
@@ -33,19 +32,28 @@ fn base_of(body: &[u8]) -> u8
         return 10;
     }
     let second = byte_at(body, 1);
-    if second == b'x' || second == b'X' { 16 } else { 8 }
+    let is_hexadecimal = second == b'x' || second == b'X';
+    if is_hexadecimal { 16 } else { 8 }
 }
 
 fn digits_of(body: &[u8]) -> &[u8]
     ensures { result.now ≡ tokens.digits_of body.now }
 {
-    if base_of(body) == 16 { &body[2..] } else { body }
+    if base_of(body) == 16 {
+        &body[2..]
+    } else {
+        body
+    }
 }
 
 fn is_suffixed(word: &[u8]) -> bool
     ensures { result ≡ tokens.is_suffixed word.now }
 {
-    let last = if word.is_empty() { 0 } else { word[word.len() - 1] };
+    let last = if word.is_empty() {
+        0
+    } else {
+        word[word.len() - 1]
+    };
     last == b'u' || last == b'U'
 }
 

@@ -7,12 +7,11 @@ ghost use Rattle.c_lexer.specs.Scan as spec;
 ghost use Rattle.std.specs.List.{prefix_len};
 ghost use Rattle.std.specs.Char.{is_digit};
 
-use std::alloc::{AllocError, Global};
-
 use crate::bytes::{byte_at, digit_value, is_line_feed};
 use crate::number::value_in;
 use crate::piece::Piece;
 use crate::token::{LexRefusal, Token, TokenKind};
+use std::alloc::{AllocError, Global};
 
 /// How many digits of a base the bytes begin with.
 fn digits_len(base: u8, bytes: &[u8]) -> usize
@@ -118,13 +117,7 @@ fn one_byte(body: &[u8]) -> Option<u8>
 {
     match first_byte(body) {
         None => None,
-        Some((b, len)) => {
-            if len == body.len() {
-                Some(b)
-            } else {
-                None
-            }
-        }
+        Some((b, len)) => { if len == body.len() { Some(b) } else { None } }
     }
 }
 

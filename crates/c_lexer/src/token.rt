@@ -1,9 +1,8 @@
 ghost use Rattle.std.specs.Prelude.{◌≡◌};
 ghost use Rattle.c_lexer.specs.declared.token.LexRefusal.TheVariants.{Memory};
 
-use std::alloc::AllocFailed;
-
 use srmt_base::Ty;
+use std::alloc::AllocFailed;
 
 /// A token of a source: the half-open range of its bytes, and its line, from 1.
 #[derive(Clone, Copy, Debug, PartialEq, Eq)]

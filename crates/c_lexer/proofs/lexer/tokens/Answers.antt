@@ -11,7 +11,7 @@ fault c =
     let place = c.loop-rest.place in
     let rest = c.loop-rest.rest.now in
     c.loop-rest.invariant.fails_on c.in_err-piece.field-0.0
-        (refuses_now place.is_first place.at rest c.in_err-piece.field-0.0 (found_fault place.is_first place.at rest c.in_err-piece.field-0.0 (grind arith) (sym c.in_err-piece.ensures.value)))
+    (refuses_now place.is_first place.at rest c.in_err-piece.field-0.0 (found_fault place.is_first place.at rest c.in_err-piece.field-0.0 (grind arith) (sym c.in_err-piece.ensures.value)))
 
 result_is : (c : goal.After-drop-kept) → c.from_residual.result ≡ Err c.in_err-piece.field-0.0
 result_is c = let p = err_from_is_err_and c.from_residual.result c.from_residual.ensures.1 in p.1 ∙ ap Err p.2
@@ -32,13 +32,13 @@ loop-rest-preserved c =
     let bytes = c.loop-rest.rest.now in
     let some : 0 < length bytes = grind arith in
     let fits = c.in_ok-piece.ensures.within.1 in
-    record
-    { goes_on = goes_on_to c.args.src.now c.loop-rest.kept.items c.keep.new.kept.items place.is_first next.is_first place.at next.at place.line next.line bytes c.split_at.result.0.now c.split_at.result.1.now c.in_ok-piece.piece c.in_ok-piece.len
-        some fits (sym c.in_ok-piece.ensures.value) c.split_at.ensures.front c.split_at.ensures.back c.past-next.ensures.first c.past-next.ensures.at c.past-next.ensures.line c.in_ok-keep.ensures.ok c.loop-rest.invariant.goes_on
-    ; fails_on = fails_on_to c.args.src.now place.is_first next.is_first place.at next.at bytes c.split_at.result.0.now c.split_at.result.1.now c.in_ok-piece.piece c.in_ok-piece.len
-        some fits (sym c.in_ok-piece.ensures.value) c.split_at.ensures.front c.split_at.ensures.back c.past-next.ensures.first c.past-next.ensures.at c.loop-rest.invariant.fails_on
-    ; at = omega (arith, c.split_at.ensures.back_len, c.split_at.ensures.front_len)
-    ; line = omega (arith, c.split_at.ensures.back_len, c.split_at.ensures.front_len)
+    record {
+      goes_on = goes_on_to c.args.src.now c.loop-rest.kept.items c.keep.new.kept.items place.is_first next.is_first place.at next.at place.line next.line bytes c.split_at.result.0.now c.split_at.result.1.now c.in_ok-piece.piece c.in_ok-piece.len
+          some fits (sym c.in_ok-piece.ensures.value) c.split_at.ensures.front c.split_at.ensures.back c.past-next.ensures.first c.past-next.ensures.at c.past-next.ensures.line c.in_ok-keep.ensures.ok c.loop-rest.invariant.goes_on;
+      fails_on = fails_on_to c.args.src.now place.is_first next.is_first place.at next.at bytes c.split_at.result.0.now c.split_at.result.1.now c.in_ok-piece.piece c.in_ok-piece.len
+          some fits (sym c.in_ok-piece.ensures.value) c.split_at.ensures.front c.split_at.ensures.back c.past-next.ensures.first c.past-next.ensures.at c.loop-rest.invariant.fails_on;
+      at = omega (arith, c.split_at.ensures.back_len, c.split_at.ensures.front_len);
+      line = omega (arith, c.split_at.ensures.back_len, c.split_at.ensures.front_len);
     }
 
 lexed : (c : goal.After-loop-rest) → Lexes c.args.src.now c.loop-rest.kept.items

@@ -1,4 +1,4 @@
-use Rattle.std.proofs.Common.{◌≡◌, sym, ◌∙◌, arith, rules}
+use Rattle.std.proofs.Common.{sym, ◌∙◌, arith, rules}
 use Rattle.std.proofs.lemmas.List.{take_rest}
 use Rattle.c_lexer.proofs.Decoding.{is_some_goes, is_some_end, is_some_stops}
 use Rattle.c_lexer.proofs.quoted.is_decodable.Goals as goal

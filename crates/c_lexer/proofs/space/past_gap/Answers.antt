@@ -1,4 +1,4 @@
-use Rattle.std.proofs.Common.{◌≡◌, ◌<◌, sym, ◌∙◌, arith, rules}
+use Rattle.std.proofs.Common.{◌<◌, sym, ◌∙◌, arith, rules}
 use Rattle.std.proofs.lemmas.List.{take_rest}
 use Rattle.c_lexer.proofs.Gaps.{past_gap_stops, past_gap_goes}
 use Rattle.c_lexer.specs.Scan.{gap_part}
