@@ -13,7 +13,8 @@ use Rattle.srmt_base.specs.declared.ty.Ty.{Ty}
 use Rattle.srmt_base.specs.Types.{is_signed, can_hold, kept, value_at, width_of}
 use Rattle.srmt_base.specs.Arith.{arith_of, reduced, divided, remaining, shifted_left, shifted_right, bits_at, compares}
 use Rattle.srmt_base.specs.Convert.{converted, convert_of}
-use Rattle.srmt_base.specs.Pointer.{object_of, offset_of, pointer_of, moved, amount_of, pointer_sum_of, pointer_difference_of, pointer_comparison_of, is_equality, is_offset}
+use Rattle.srmt_base.specs.Objects.{pointer_to, object_part, offset_part}
+use Rattle.srmt_base.specs.Pointer.{moved, amount_of, pointer_sum_of, pointer_difference_of, pointer_comparison_of, is_equality, is_offset}
 
 -- a result, where there is one, is below a bound
 abbrev pub IsBelow : ℕ → Result ℕ Trap → Type 0
@@ -78,23 +79,23 @@ pub convert_of-lt : (from to : Ty) (a : ℕ) → convert_of from to a < 2 ^ 32
 convert_of-lt from to a = kept-lt (converted to (value_at from a))
 
 -- the pointer to another cell of an object
-pointer_of-lt : (p : ℕ) (z : ℤ) → p < 2 ^ 44 → is_offset z ≡ true → pointer_of (object_of p) (unsigned_abs z) < 2 ^ 44
-pointer_of-lt p (pos n) h within = let k : n ≤ 65535 = grind (arith, nat_tests) in omega arith
-pointer_of-lt p (negsuc n) h within = absurd cc
+pointer_to-lt : (p : ℕ) (z : ℤ) → p < 2 ^ 44 → is_offset z ≡ true → pointer_to (object_part p) (unsigned_abs z) < 2 ^ 44
+pointer_to-lt p (pos n) h within = let k : n ≤ 65535 = grind (arith, nat_tests) in omega arith
+pointer_to-lt p (negsuc n) h within = absurd cc
 
 -- a pointer stays below 2^44 wherever it moves
 pub moved-lt : (p : ℕ) (amount : ℤ) → p < 2 ^ 44 → IsBelow (2 ^ 44) (moved p amount)
 moved-lt p amount h =
-    if-lt _ (object_of p == 0) _ _ (λ _. (if-lt _ (int_eq amount (pos 0)) _ _ (λ _. h) tt))
-    (if-lt _ (is_offset (pos (offset_of p) +ℤ amount)) _ _ (λ within. pointer_of-lt p (pos (offset_of p) +ℤ amount) h within) tt)
+    if-lt _ (object_part p == 0) _ _ (λ _. (if-lt _ (int_eq amount (pos 0)) _ _ (λ _. h) tt))
+    (if-lt _ (is_offset (pos (offset_part p) +ℤ amount)) _ _ (λ within. pointer_to-lt p (pos (offset_part p) +ℤ amount) h within) tt)
 
 pub pointer_sum_of-lt : (p : ℕ) (ty : Ty) (index : ℕ) (negated : Bool) (scale : ℕ) → p < 2 ^ 44 → IsBelow (2 ^ 44) (pointer_sum_of p ty index negated scale)
 pointer_sum_of-lt p ty index negated scale h = moved-lt p (amount_of ty index negated scale) h
 
 pub pointer_difference_of-lt : (p q scale : ℕ) → IsBelow (2 ^ 32) (pointer_difference_of p q scale)
-pointer_difference_of-lt p q scale = if-lt _ (object_of p == object_of q) _ _ (λ _. (kept-lt (int_div (pos (offset_of p) -ℤ pos (offset_of q)) (pos scale)))) tt
+pointer_difference_of-lt p q scale = if-lt _ (object_part p == object_part q) _ _ (λ _. (kept-lt (int_div (pos (offset_part p) -ℤ pos (offset_part q)) (pos scale)))) tt
 
 pub pointer_comparison_of-lt : (op : Op) (p q : ℕ) → IsBelow 2 (pointer_comparison_of op p q)
 pointer_comparison_of-lt op p q =
     if-lt _ (is_equality op) _ _ (λ _. (from_bool-lt (compares op (pos p) (pos q))))
-    (if-lt _ (object_of p == object_of q) _ _ (λ _. (from_bool-lt (compares op (pos (offset_of p)) (pos (offset_of q))))) tt)
+    (if-lt _ (object_part p == object_part q) _ _ (λ _. (from_bool-lt (compares op (pos (offset_part p)) (pos (offset_part q))))) tt)

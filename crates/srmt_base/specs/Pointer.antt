@@ -1,5 +1,5 @@
--- Pointers: numbers that hold an object and an offset in it, and their arithmetic.
-use Rattle.std.specs.Prelude.{ℕ, ◌+◌, ◌*◌, ◌/◌, ◌%◌, ◌^◌, ℤ, pos, ◌+ℤ◌, ◌-ℤ◌, ◌*ℤ◌, neg_ℤ, Bool, true, false, ◌&&◌, ◌==◌, if◌then◌else◌, int_le, int_div, unsigned_abs, Result, Ok, Err}
+-- Arithmetic on pointers, which hold an object and an offset in it.
+use Rattle.std.specs.Prelude.{ℕ, ℤ, pos, ◌+ℤ◌, ◌-ℤ◌, ◌*ℤ◌, neg_ℤ, Bool, true, false, ◌&&◌, ◌==◌, if◌then◌else◌, int_le, int_div, unsigned_abs, Result, Ok, Err}
 use Rattle.std.specs.Int.{from_bool}
 use Rattle.std.specs.Ordering.{int_eq}
 use Rattle.srmt_base.specs.declared.op.Op.{Op}
@@ -9,17 +9,7 @@ use Rattle.srmt_base.specs.declared.trap.Trap.TheVariants.{NullPointer, OutsideO
 use Rattle.srmt_base.specs.declared.ty.Ty.{Ty}
 use Rattle.srmt_base.specs.Types.{value_at, kept}
 use Rattle.srmt_base.specs.Arith.{compares}
-
--- the object that a pointer leads into, 0 for a null pointer, and the offset in cells
-abbrev pub object_of : ℕ → ℕ
-object_of pointer = pointer / 2 ^ 16
-
-abbrev pub offset_of : ℕ → ℕ
-offset_of pointer = pointer % 2 ^ 16
-
--- the pointer to a cell of an object
-abbrev pub pointer_of : ℕ → ℕ → ℕ
-pointer_of object offset = object * 2 ^ 16 + offset
+use Rattle.srmt_base.specs.Objects.{pointer_to, object_part, offset_part}
 
 -- whether a number is an offset that a pointer can hold
 abbrev pub is_offset : ℤ → Bool
@@ -53,8 +43,8 @@ amount_of ty index negated scale =
 -- can hold (C11 6.5.6p8 allows one past the object's last cell; a cell is tested where it is accessed)
 abbrev pub moved : ℕ → ℤ → Result ℕ Trap
 moved p amount =
-    if object_of p == 0 then (if int_eq amount (pos 0) then Ok p else Err NullPointer)
-    else if is_offset (pos (offset_of p) +ℤ amount) then Ok (pointer_of (object_of p) (unsigned_abs (pos (offset_of p) +ℤ amount)))
+    if object_part p == 0 then (if int_eq amount (pos 0) then Ok p else Err NullPointer)
+    else if is_offset (pos (offset_part p) +ℤ amount) then Ok (pointer_to (object_part p) (unsigned_abs (pos (offset_part p) +ℤ amount)))
     else Err OutsideObject
 
 -- the sum of a pointer and an index, read at its type, in cells of a scale (C11 6.5.6p8)
@@ -64,7 +54,7 @@ pointer_sum_of p ty index negated scale = moved p (amount_of ty index negated sc
 -- the difference of two pointers into one object, in elements of a scale (C11 6.5.6p9)
 abbrev pub pointer_difference_of : ℕ → ℕ → ℕ → Result ℕ Trap
 pointer_difference_of p q scale =
-    if object_of p == object_of q then Ok (kept (int_div (pos (offset_of p) -ℤ pos (offset_of q)) (pos scale)))
+    if object_part p == object_part q then Ok (kept (int_div (pos (offset_part p) -ℤ pos (offset_part q)) (pos scale)))
     else Err OtherObject
 
 -- a comparison of two pointers: any two are equal or not (C11 6.5.9p6), and an order is that of the
@@ -72,5 +62,5 @@ pointer_difference_of p q scale =
 abbrev pub pointer_comparison_of : Op → ℕ → ℕ → Result ℕ Trap
 pointer_comparison_of op p q =
     if is_equality op then Ok (from_bool (compares op (pos p) (pos q)))
-    else if object_of p == object_of q then Ok (from_bool (compares op (pos (offset_of p)) (pos (offset_of q))))
+    else if object_part p == object_part q then Ok (from_bool (compares op (pos (offset_part p)) (pos (offset_part q))))
     else Err OtherObject
