@@ -124,9 +124,14 @@ fn plain_answer(
     Ok(answer)
 }
 
+/// A value that may move to another thread.
+fn movable<T: Send>(value: T) -> T {
+    value
+}
+
 #[test]
 fn both_stores_answer_as_the_list_does(rt: HostRuntime) -> Result<(), Fail> {
-    let mut store = Store::start(rt.alloc(), 10, 5)?;
+    let mut store = movable(Store::start(rt.alloc(), 10, 5)?);
     let mut plain = PlainStore::start(rt.alloc(), 10, 5);
     for (call, expected) in CALLS {
         assert_eq!(rt; answer(&mut store, call), expected);
