@@ -7,11 +7,17 @@
 #![tactic(auto)]
 
 mod access;
+mod class;
 mod laws;
 mod mid;
+mod pair;
 mod program;
+mod version;
 
 pub use access::Access;
+pub use class::Class;
 pub use laws::{is_determined, is_never_stuck};
 pub use mid::Mid;
+pub use pair::{Classed, Pair};
 pub use program::{FunType, MidFunction, MidLine, MidProgram, RegisterKind, Static};
+pub use version::{Asks, Version, VersionLine, VersionOp};
