@@ -9,6 +9,8 @@
 mod link_ends;
 mod side_done;
 mod side_ends;
+#[cfg(test)]
+mod tests;
 
 pub use link_ends::{LeadDone, LeadEnds, TrailDone, TrailEnds, ends, rejoin_ends};
 pub use side_done::SideDone;

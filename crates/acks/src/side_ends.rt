@@ -102,6 +102,17 @@ impl<const OUT: usize, const OUT_BATCH: usize, const BACK: usize, const BACK_BAT
         self.take_known()
     }
 
+    // Publishes and releases all that is its own, as before each look at the other side.
+    fn settle(&mut self)
+        ensures sender { sends self.new ≡ published_all (sends self.old) }
+        ensures receiver { takes self.new ≡ released_all (takes self.old) }
+        ensures made { made_of self.new ≡ made_of self.old }
+        ensures asks { asks_of self.new ≡ asks_of self.old }
+    {
+        self.sender.publish();
+        self.receiver.release();
+    }
+
     // Publishes and releases all that is its own, and looks at the tail.
     fn look_to_take(&mut self)
         ensures sender { sends self.new ≡ published_all (sends self.old) }
@@ -112,8 +123,7 @@ impl<const OUT: usize, const OUT_BATCH: usize, const BACK: usize, const BACK_BAT
         ensures made { made_of self.new ≡ made_of self.old }
         ensures asks { asks_of self.new ≡ asks_of self.old }
     {
-        self.sender.publish();
-        self.receiver.release();
+        self.settle();
         self.receiver.reload();
     }
 
@@ -127,8 +137,7 @@ impl<const OUT: usize, const OUT_BATCH: usize, const BACK: usize, const BACK_BAT
         ensures made { made_of self.new ≡ made_of self.old }
         ensures asks { asks_of self.new ≡ asks_of self.old }
     {
-        self.receiver.release();
-        self.sender.publish();
+        self.settle();
         self.sender.reload();
     }
 

@@ -1,5 +1,5 @@
 -- What the link of one step shows.
-use Rattle.std.specs.Prelude.{ℕ, Bool, true, false, List, [], ◌∷◌, take}
+use Rattle.std.specs.Prelude.{ℕ, Bool, true, false, List, [], take}
 use Rattle.machine.specs.declared.link_call.Taken.{Taken}
 use Rattle.machine.specs.declared.link_call.Taken.TheVariants.{Word, NotYet, Closed}
 use Rattle.machine.specs.declared.link_call.LastCall.{LastCall}
