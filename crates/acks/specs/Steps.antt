@@ -1,6 +1,6 @@
 -- How the calls of an end change what its sender and its receiver know.
 use Rattle.std.specs.Prelude.{◌≡◌, ℕ, ◌<◌, Bool, true, false}
-use Rattle.batch_queue.specs.Views.{free_places, pushed, published_all, published_at, saw_head, discarded, IsEmpty, took, released_all, released_at, saw_tail}
+use Rattle.batch_queue.specs.Views.{free_places, pushed, published_at, discarded, IsEmpty, took, released_at}
 use Rattle.batch_queue.specs.declared.view.SendView.{SendView}
 use Rattle.batch_queue.specs.declared.view.TakeView.{TakeView}
 use Rattle.machine.specs.declared.link_call.Taken.{Taken}
