@@ -1,0 +1,5 @@
+pub mod Digits
+pub mod Blanks
+pub mod Puts
+pub mod Tokens
+pub mod Form
