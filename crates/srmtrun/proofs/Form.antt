@@ -48,7 +48,7 @@ head_again at line ps s =
     let void = word_again (codes "void") 0 open_paren.0.1 _ refl open_paren.2 in
     let close_paren = word_again (codes ")") 0 void.0.1 _ refl void.2 in
     let brace = word_again (codes "{") 0 close_paren.0.1 _ refl close_paren.2 in
-    (brace.0.1, rw (int.1, spaced, main.1, open_paren.1, void.1, close_paren.1, brace.1) refl, brace.2)
+    (brace.0.1, rw (int.1, spaced, main.1, open_paren.1, void.1, close_paren.1, brace.1), brace.2)
 
 -- putchar(D);
 

@@ -3,12 +3,13 @@ use Rattle.std.proofs.Common.{◌≡◌, ℕ, zero, suc, ◌+◌, ◌<◌, ◌�
 use Rattle.std.proofs.Math.Seq.{take-append_seam, drop-append_seam}
 use Rattle.std.specs.Char.{is_ascii_digit, digit_value}
 use Rattle.std.specs.Fmt.{decimal}
-use Rattle.std.specs.List.{prefix_len, starts_with, list_all}
+use Rattle.std.specs.List.{prefix_len, list_all}
 use Rattle.std.specs.Str.Parse.{AllDigits}
 use Rattle.std.proofs.lemmas.Str.Parse.{digit_from_value}
 use Rattle.std.proofs.lemmas.Bool.{and_parts}
-use Rattle.std.proofs.lemmas.Slice.Eq.{starts_is}
-use Rattle.std.proofs.lemmas.Bool.Decides.{Decides-eqb, nat_tests}
+use Rattle.std.specs.Cmp.Lexicographic.{pointwise, bytes_decides}
+use Rattle.std.proofs.lemmas.Option.{cond_some}
+use Rattle.std.proofs.lemmas.Bool.Decides.{nat_tests}
 use Rattle.srmtrun.specs.declared.first_form.Constant.{Constant}
 use Rattle.srmtrun.specs.FirstForm.{is_blank, Piece, word, word_at, gap, Spells}
 use Rattle.srmtrun.specs.Place.{Place}
@@ -46,23 +47,20 @@ pub record IsToken (w : List ℕ) (at : Place) (line : ℕ) (after : Place) : Ty
   pub after_is : after.line ≡ (skip_blanks at).line
   pub bytes_are : (skip_blanks at).bytes ≡ w ++ after.bytes
 
-chosen : (b : Bool) (x y : ℕ × Place) → cond b (Some x) None ≡ Some y → (b ≡ true) × (x ≡ y)
-chosen true x y e = (refl, cc)
-chosen false x y e = absurd cc
-
 pub token_is : (w : List ℕ) (at : Place) (line : ℕ) (after : Place) → token w at ≡ Some (line, after) → IsToken w at line after
 unfolding token
 token_is w at line after e =
     let bytes = (skip_blanks at).bytes in
-    let c = chosen (starts_with nat_eq bytes w) ((skip_blanks at).line, record { line = (skip_blanks at).line; bytes = drop (length w) bytes }) (line, after) e in
-    let front = (starts_is Decides-eqb bytes w (starts_with nat_eq bytes w) refl).0 c.0 in
+    let c = cond_some (pointwise nat_eq (take (length w) bytes) w) ((skip_blanks at).line, record { line = (skip_blanks at).line; bytes = drop (length w) bytes }) (line, after) e in
+    let front = sym (take-append-drop (length w) bytes) ∙ ap (λ x. x ++ drop (length w) bytes) ((bytes_decides _ _).0 c.0) in
     record { line_is = sym (ap (λ (x : ℕ × Place). x.0) c.1); after_is = sym (ap (λ (x : ℕ × Place). x.1.line) c.1); bytes_are = front ∙ ap (λ (x : ℕ × Place). w ++ x.1.bytes) c.1 }
 
 token_from : (w : List ℕ) (at : Place) (rest : List ℕ) → (skip_blanks at).bytes ≡ w ++ rest → token w at ≡ Some ((skip_blanks at).line, record { line = (skip_blanks at).line; bytes = rest })
 unfolding token
 token_from w at rest e =
     let bytes = (skip_blanks at).bytes in
-    let test = (starts_is Decides-eqb bytes w (starts_with nat_eq bytes w) refl).1 rest e in
+    let front : take (length w) bytes ≡ w = ap (take (length w)) e ∙ take-append_seam w rest in
+    let test = (bytes_decides (take (length w) bytes) w).1 front in
     let end : drop (length w) bytes ≡ rest = ap (drop (length w)) e ∙ drop-append_seam w rest in
     rw (test, end) refl
 
@@ -96,11 +94,7 @@ module _ (w : List ℕ) (least : ℕ) (at : Place) (ps : List Piece) where
 -- a blank where one is owed
 pub space_is : (at after : Place) → space at ≡ Some after → (begins is_blank at.bytes ≡ true) × (at ≡ after)
 unfolding space
-space_is at after e = guard (begins is_blank at.bytes) at after e
-  where
-    guard : (b : Bool) (x y : Place) → cond b (Some x) None ≡ Some y → (b ≡ true) × (x ≡ y)
-    guard true x y h = (refl, cc)
-    guard false x y h = absurd cc
+space_is at after e = cond_some (begins is_blank at.bytes) at after e
 
 pub space_again : (at : Place) (ps : List Piece) → StandsAt at (gap 1 ∷ ps) → space at ≡ Some at
 unfolding space

@@ -1,7 +1,8 @@
 -- What the parts of the reader give, as functions on what is left of a source: what was read, and what is left then.
 use Rattle.std.specs.Prelude.{ℕ, zero, suc, ◌+◌, Bool, true, false, ◌==◌, ◌&&◌, nat_le, nat_lt, nat_eq, slice_index, if◌then◌else◌, List, [], ◌∷◌, length, drop, take, codes, Option, Some, None, option_and_then}
 use Rattle.std.specs.Option.{option_map}
-use Rattle.std.specs.List.{prefix_len, starts_with}
+use Rattle.std.specs.List.{prefix_len}
+use Rattle.std.specs.Cmp.Lexicographic.{pointwise}
 use Rattle.std.specs.Char.{is_ascii_digit}
 use Rattle.std.specs.Str.Parse.{digits_value}
 use Rattle.srmtrun.specs.declared.first_form.Constant.{Constant}
@@ -41,7 +42,7 @@ space at = if begins is_blank at.bytes then Some at else None
 unfoldable pub token : List ℕ → Place → Option (ℕ × Place)
 token word at =
     let there = skip_blanks at in
-    if starts_with nat_eq there.bytes word then Some (there.line, record { line = there.line; bytes = drop (length word) there.bytes }) else None
+    if pointwise nat_eq (take (length word) there.bytes) word then Some (there.line, record { line = there.line; bytes = drop (length word) there.bytes }) else None
 
 -- the value of a constant with these digits, where they are one: no 0 stands before another digit, and an `int` holds it
 unfoldable pub value_of : List ℕ → Option ℕ

@@ -3,7 +3,7 @@ ghost use Rattle.std.specs.Option.{option_map};
 ghost use Rattle.std.specs.Char.{is_ascii_digit};
 ghost use Rattle.std.specs.List.{prefix_len};
 ghost use Rattle.std.specs.Str.Parse.{AllDigits};
-ghost use Rattle.srmtrun.specs.declared.first_form.FirstForm.{FirstForm as Form};
+ghost use Rattle.srmtrun.specs.declared.first_form.FirstForm.{FirstForm};
 ghost use Rattle.srmtrun.specs.FirstForm.{is_blank, IsFirstForm};
 ghost use Rattle.srmtrun.specs.Place.{place_of};
 ghost use Rattle.srmtrun.specs.Reading.{seen, skip_blanks, space, token, value_of, constant, head, put, puts, tail, first_form};
@@ -23,8 +23,8 @@ const MOST: u32 = 2_147_483_647;
 pub fn read_first_form(alloc: Global, source: &[u8]) -> Result<FirstForm, FormRefusal>
     requires { length source.now + 1 < 2 ^ 32 }
     ensures found { IfOk result (IsFirstForm source.now) }
-    ensures only { IfOk result (λ form. (other : Form) → IsFirstForm source.now other → other ≡ form) }
-    ensures none { IsErrOf result FormRefusal.Form → (form : Form) → IsFirstForm source.now form → ⊥ }
+    ensures one { (a b : FirstForm) → IsFirstForm source.now a → IsFirstForm source.now b → a ≡ b }
+    ensures none { IsErrOf result FormRefusal.Form → (form : FirstForm) → IsFirstForm source.now form → ⊥ }
 {
     whole(alloc, source)
 }
@@ -157,10 +157,7 @@ fn token<'a>(at: Rest<'a>, word: &[u8]) -> Option<(u32, Rest<'a>)>
     ensures { seen result ≡ token word.now (place_of at.entry) }
 {
     let Rest { bytes, line } = skip_blanks(at);
-    if !bytes.starts_with(word) {
-        return None;
-    }
-    let bytes = &bytes[word.len()..];
+    let bytes = bytes.strip_prefix(word)?;
     Some((line, Rest { bytes, line }))
 }
 

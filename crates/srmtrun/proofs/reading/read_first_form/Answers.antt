@@ -12,15 +12,11 @@ found : (bytes : List ℕ) (r : Result FirstForm FormRefusal) → IfOk r (λ for
 found bytes (Ok form) e = first_form_takes bytes form e
 found bytes (Err _) e = e
 
-only : (bytes : List ℕ) (r : Result FirstForm FormRefusal) → IfOk r (λ form. first_form bytes ≡ Some form) → IfOk r (λ form. (other : FirstForm) → IsFirstForm bytes other → other ≡ form)
-only bytes (Ok form) e = λ other is. same_Some other form (sym (first_form_again bytes other is) ∙ e)
-only bytes (Err _) e = e
-
 pub returns-clause-found : goal.returns-clause-found
 returns-clause-found c = found _ _ c.whole.ensures.ok
 
-pub returns-clause-only : goal.returns-clause-only
-returns-clause-only c = only _ _ c.whole.ensures.ok
+pub returns-clause-one : goal.returns-clause-one
+returns-clause-one c = λ a b is_a is_b. same_Some a b (sym (first_form_again _ a is_a) ∙ first_form_again _ b is_b)
 
 pub returns-clause-none : goal.returns-clause-none
 returns-clause-none c = λ refused form is. none-some form (sym (c.whole.ensures.form refused) ∙ first_form_again _ form is)
