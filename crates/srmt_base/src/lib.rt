@@ -7,19 +7,25 @@
 #![tactic(auto)]
 
 mod args;
+mod arithmetic;
+mod conversion;
 mod event;
 mod limits;
 mod op;
+mod pointer;
 mod side;
 mod trap;
 mod ty;
 mod word;
 
 pub use args::Args;
+pub use arithmetic::arith;
+pub use conversion::convert;
 pub use event::Event;
 pub use limits::Limits;
 pub use op::Op;
+pub use pointer::{pointer_comparison, pointer_difference, pointer_sum};
 pub use side::Side;
 pub use trap::{SourceEnd, Trap};
 pub use ty::Ty;
-pub use word::{Kind, Site, Word};
+pub use word::{Kind, Site, Word, pack};

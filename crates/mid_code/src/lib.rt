@@ -1,0 +1,17 @@
+//! Middle code: the instructions of a register machine into which a program is lowered, the
+//! programs made of them, and what such a program means.
+//!
+//! The crate holds plain data and the definitions that every layer above cites: which programs
+//! are valid, what one instruction does, and which events and which end a run has. It stands on
+//! the values of `srmt_base`.
+#![tactic(auto)]
+
+mod access;
+mod laws;
+mod mid;
+mod program;
+
+pub use access::Access;
+pub use laws::{is_determined, is_never_stuck};
+pub use mid::Mid;
+pub use program::{FunType, MidFunction, MidLine, MidProgram, RegisterKind, Static};

@@ -1,0 +1,4 @@
+pub mod Count
+pub mod MemOutlet
+pub mod SureOutlet
+pub mod Told

@@ -1,0 +1,23 @@
+//! The outside of a run: the files that it reads, the events that it writes, and its notes.
+//!
+//! Three traits say what a caller may rely on: what was read or written, where an object tells it,
+//! and a count of faults that rises in each call that fails. The crate promises that its forms in
+//! memory meet these traits exactly. The adapters over the runtime are the trusted edge: they tell
+//! nothing of what the system did. The crate stands on `srmt_base` and std.
+#![tactic(auto)]
+
+mod failed;
+mod mem_outlet;
+mod outlet;
+mod real_outlet;
+mod sure_outlet;
+
+pub use failed::Failed;
+pub use mem_outlet::MemOutlet;
+pub use outlet::Outlet;
+pub use real_outlet::RealOutlet;
+pub use srmt_base::Event;
+pub use sure_outlet::SureOutlet;
+
+#[cfg(test)]
+mod tests;
