@@ -7,16 +7,27 @@
 #![tactic(auto)]
 
 mod failed;
+mod file_fault;
+mod files;
+mod mem_files;
 mod mem_outlet;
 mod outlet;
+mod real_files;
 mod real_outlet;
+mod shelf;
+mod sure_files;
 mod sure_outlet;
 
 pub use failed::Failed;
+pub use file_fault::FileFault;
+pub use files::Files;
+pub use mem_files::MemFiles;
 pub use mem_outlet::MemOutlet;
 pub use outlet::Outlet;
+pub use real_files::RealFiles;
 pub use real_outlet::RealOutlet;
 pub use srmt_base::Event;
+pub use sure_files::SureFiles;
 pub use sure_outlet::SureOutlet;
 
 #[cfg(test)]
