@@ -75,7 +75,7 @@ put_again at p ps most s =
     let value = constant_again p.constant 0 open_paren.0 _ most (ends_digits 41 [] (gap 0 ∷ word (codes ";") ∷ ps) refl) open_paren.2 in
     let close_paren = word_again (codes ")") 0 value.0 _ refl value.2 in
     let semicolon = word_again (codes ";") 0 close_paren.0.1 _ refl close_paren.2 in
-    (semicolon.0.1, rw (name.1, open_paren.1, value.1, close_paren.1, semicolon.1) refl, semicolon.2)
+    (semicolon.0.1, rw (name.1, open_paren.1, value.1, close_paren.1, semicolon.1), semicolon.2)
 
 abbrev HoldsInt : PutConstant → Type 0
 HoldsInt p = p.constant.value ≤ 2147483647
@@ -153,7 +153,7 @@ tail_again at return_line status end_line most s =
     let value = constant_again status 1 word.0 _ most (ends_digits 59 [] (gap 0 ∷ word_at end_line (codes "}") ∷ gap 0 ∷ []) refl) word.2 in
     let semicolon = word_again (codes ";") 0 value.0 _ refl value.2 in
     let brace = line_again (codes "}") 0 semicolon.0.1 _ end_line refl semicolon.2 in
-    rw (word.1, spaced, value.1, semicolon.1, brace.1, end_again brace.0 brace.2) refl
+    rw (word.1, spaced, value.1, semicolon.1, brace.1, end_again brace.0 brace.2)
 
 first_none : {A B : Type 0} (o : Option A) (f : A → Option B) → ((x : A) → o ≡ Some x → ⊥) → (o >>= f) ≡ None
 first_none None f h = refl
@@ -192,4 +192,4 @@ first_form_again bytes form is =
     let main = head_again start form.main_line (flat_map put_pieces form.puts ++ tail_pieces form.return_line form.status form.end_line) (record { spelled = is.spelled }) in
     let body = puts_again 20000 form.puts main.0 (tail_pieces form.return_line form.status form.end_line) is.puts is.constants (λ end s. no_put end form.return_line _ s) main.2 in
     let end = tail_again body.0 form.return_line form.status form.end_line is.status body.2 in
-    rw (main.1, body.1, end) refl
+    rw (main.1, body.1, end)

@@ -3,3 +3,5 @@ pub mod Blanks
 pub mod Puts
 pub mod Tokens
 pub mod Form
+pub mod ValidCode
+pub mod CodeMeaning

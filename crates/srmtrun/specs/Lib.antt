@@ -1,3 +1,5 @@
 pub mod FirstForm
 pub mod Place
 pub mod Reading
+pub mod Meaning
+pub mod Lowered

@@ -5,6 +5,7 @@
 #![tactic(auto)]
 
 mod first_form;
+mod lowering;
 mod reading;
 mod rest;
 
