@@ -2,6 +2,7 @@ pub mod Count
 pub mod Files
 pub mod MemFiles
 pub mod MemOutlet
+pub mod MemSink
 pub mod Shelf
 pub mod SureFiles
 pub mod SureOutlet

@@ -1,7 +1,7 @@
-ghost use Rattle.std.specs.Prelude.{◌≡◌, ℕ, ◌<◌, ◌≤◌, [], ◌∷◌, take, length, OnOk, OnErr, IfOk, IfSome, IsErrOf};
+ghost use Rattle.std.specs.Prelude.{◌≡◌, ◌<◌, ◌≤◌, [], ◌∷◌, ◌++◌, length, OnOk, OnErr, IfOk, IfSome, IsErrOf};
 ghost use Rattle.srmt_outside.specs.Count.{Rose};
 ghost use Rattle.srmt_outside.specs.Files.{Asks};
-ghost use Rattle.srmt_outside.specs.Told.{Appends};
+ghost use Rattle.srmt_outside.specs.Told.{Appends, AppendsPrefix};
 
 use super::*;
 use std::alloc::Global;
@@ -12,8 +12,8 @@ use std::{fs, io};
 // What a caller learns of any outlet: it wrote these events, or a prefix of them and a fault.
 fn write_all<O: Outlet>(outlet: &mut O, events: &[Event]) -> Result<(), Failed>
     ensures ok { OnOk result (Appends (O.events outlet.old) (O.events outlet.new) events.now) }
-    ensures failed { OnErr result ((n : ℕ)
-        × Appends (O.events outlet.old) (O.events outlet.new) (take n events.now)) }
+    ensures failed { OnErr result
+        (AppendsPrefix (O.events outlet.old) (O.events outlet.new) events.now) }
     ensures rose { OnErr result (Rose (O.faults outlet.old) (O.faults outlet.new)) }
     ensures never_falls { O.faults outlet.old ≤ O.faults outlet.new }
 {
@@ -54,6 +54,19 @@ fn load_two<F: Files>(
     let one = load(alloc, files, first)?;
     let two = load(alloc, files, second)?;
     Ok((one, two))
+}
+
+// What a caller learns of any sink: it wrote both pieces, or a prefix of them and a fault.
+fn push_two<S: Sink>(sink: &mut S, first: &[u8], second: &[u8]) -> Result<(), Failed>
+    ensures ok { OnOk result
+        (Appends (S.bytes sink.old) (S.bytes sink.new) (first.now ++ second.now)) }
+    ensures failed { OnErr result
+        (AppendsPrefix (S.bytes sink.old) (S.bytes sink.new) (first.now ++ second.now)) }
+    ensures rose { OnErr result (Rose (S.faults sink.old) (S.faults sink.new)) }
+{
+    sink.push(first)?;
+    sink.push(second)?;
+    Ok(())
 }
 
 const EVENTS: [Event; 5] = [
@@ -194,6 +207,31 @@ fn real_files_are_read(rt: HostRuntime) -> Result<(), Fail> {
     }
     fs::remove_file(&rt, name)?;
     assert_eq!(rt; into.as_slice(), b"abc".as_slice());
+    Ok(())
+}
+
+#[test]
+fn sinks_take_pieces(rt: HostRuntime) -> Result<(), Fail> {
+    let mut sink = MemSink::with_room(rt.alloc(), 4)?;
+    sink.fails.push(2)?;
+    for (piece, want) in [
+        ("ab", Ok(())),
+        ("x", Err(Failed)),
+        ("cde", Err(Failed)),
+        ("", Ok(())),
+        ("f", Err(Failed)),
+    ] {
+        assert_eq!(rt; sink.push(piece.as_bytes()), want, "{piece:?}");
+    }
+    assert_eq!(rt; sink.bytes(), b"abcd".as_slice());
+    let mut sure = SureSink::new();
+    push_two(&mut sure, b"abc", b"de")?;
+    assert_eq!(rt; sure, SureSink { bytes: 5 });
+    let mut written = Vec::new(rt.alloc());
+    push_two(&mut RealSink::new(&mut written), b"abc", b"de")?;
+    assert_eq!(rt; written.as_slice(), b"abcde".as_slice());
+    assert_eq!(rt; RealSink::new(Full).push(b"a"), Err(Failed));
+    RealSink::new(rt.stderr()).push(b"note\n")?;
     Ok(())
 }
 
