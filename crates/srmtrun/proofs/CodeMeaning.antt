@@ -20,7 +20,9 @@ use Rattle.mid_code.specs.Meaning.{Step, On, Ends, step, step_by, preceded, then
 use Rattle.srmtrun.specs.declared.first_form.PutConstant.{PutConstant}
 use Rattle.srmtrun.specs.declared.first_form.FirstForm.{FirstForm}
 use Rattle.srmtrun.specs.Meaning.{events_of, end_of}
-use Rattle.srmtrun.specs.Lowered.{put_code, tail_code, code_of, program_of}
+use Rattle.srmtrun.specs.Lowered.{put_code, tail_code, code_of, program_of, Implements}
+use Rattle.srmtrun.specs.FirstForm.{IsFirstForm}
+use Rattle.srmtrun.proofs.ValidCode.{program_valid}
 
 -- one step, and the rest of the run
 finishes_by : (program : MidProgram) (m next : Machine) (es fs : List Event) (end : SourceEnd) → step program m ≡ On next es → Finishes program next fs end → Finishes program m (es ++ fs) end
@@ -68,3 +70,6 @@ module _ (form : FirstForm) where
 
 pub program_means : (form : FirstForm) (input : List ℕ) (limits : Limits) → Middle (program_of form) input limits (events_of form) (end_of form)
 program_means form input limits = finishes_from form form.puts [] 0 0 refl refl
+
+pub program_implements : (bytes : List ℕ) (form : FirstForm) (program : MidProgram) → IsFirstForm bytes form → program ≡ program_of form → Implements program form
+program_implements bytes form program is e = subst (λ (p : MidProgram). Implements p form) (sym e) (record { valid = program_valid bytes form is; means = program_means form })

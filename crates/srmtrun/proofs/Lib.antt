@@ -5,3 +5,4 @@ pub mod Tokens
 pub mod Form
 pub mod ValidCode
 pub mod CodeMeaning
+pub mod Serving

@@ -3,3 +3,6 @@ pub mod Place
 pub mod Reading
 pub mod Meaning
 pub mod Lowered
+pub mod Words
+pub mod Answer
+pub mod Still

@@ -1,6 +1,7 @@
 -- The middle code of a source of the first form.
 use Rattle.std.specs.Prelude.{ℕ, List, [], ◌∷◌, ◌++◌}
 use Rattle.std.specs.List.{flat_map}
+use Rattle.srmt_base.specs.declared.limits.Limits.{Limits}
 use Rattle.srmt_base.specs.declared.ty.Ty.TheVariants.{Int, UChar}
 use Rattle.mid_code.specs.declared.program.RegisterKind.TheVariants.{Number}
 use Rattle.mid_code.specs.declared.program.FunType.{FunType}
@@ -8,8 +9,11 @@ use Rattle.mid_code.specs.declared.program.MidLine.{MidLine}
 use Rattle.mid_code.specs.declared.program.MidFunction.{MidFunction}
 use Rattle.mid_code.specs.declared.program.MidProgram.{MidProgram}
 use Rattle.mid_code.specs.declared.mid.Mid.TheVariants.{Const, Conv, Put, Exit}
+use Rattle.mid_code.specs.Valid.{IsValid}
+use Rattle.mid_code.specs.Meaning.{Middle}
 use Rattle.srmtrun.specs.declared.first_form.PutConstant.{PutConstant}
 use Rattle.srmtrun.specs.declared.first_form.FirstForm.{FirstForm}
+use Rattle.srmtrun.specs.Meaning.{events_of, end_of}
 
 -- `putchar(D);`, whose value is the byte as an unsigned char
 abbrev pub put_code : PutConstant → List MidLine
@@ -45,3 +49,8 @@ program_of form = record {
   binary_statics = [];
   functions = main_of form ∷ [];
 }
+
+-- the program is valid, and means what a source of this form does
+pub record Implements (program : MidProgram) (form : FirstForm) : Type 0 where
+  pub valid : IsValid program
+  pub means : (input : List ℕ) (limits : Limits) → Middle program input limits (events_of form) (end_of form)

@@ -4,9 +4,12 @@
 //! returns a constant. It stands on `srmt_base` and on the kit's `sqlite_items`.
 #![tactic(auto)]
 
+mod answer;
 mod first_form;
 mod lowering;
 mod reading;
 mod rest;
+mod still;
+mod words;
 
 fn main() {}

@@ -6,8 +6,6 @@ use Rattle.srmtrun.specs.declared.first_form.FormRefusal.{FormRefusal}
 use Rattle.srmtrun.specs.FirstForm.{IsFirstForm}
 use Rattle.srmtrun.specs.Reading.{first_form}
 use Rattle.srmtrun.proofs.Form.{first_form_takes, first_form_again}
-use Rattle.srmtrun.proofs.ValidCode.{program_valid}
-use Rattle.srmtrun.proofs.CodeMeaning.{program_means}
 use Rattle.srmtrun.proofs.reading.read_first_form.Goals as goal
 
 found : (bytes : List ℕ) (r : Result FirstForm FormRefusal) → IfOk r (λ form. first_form bytes ≡ Some form) → IfOk r (IsFirstForm bytes)
