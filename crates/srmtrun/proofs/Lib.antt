@@ -6,3 +6,4 @@ pub mod Form
 pub mod ValidCode
 pub mod CodeMeaning
 pub mod Serving
+pub mod Clauses

@@ -15,7 +15,7 @@ ghost use Rattle.srmtrun.specs.Meaning.{events_of, end_of};
 ghost use Rattle.srmtrun.specs.Still.{Names, IsSource, IsNoSource, IsTooLong, AsksFor, AnswersForm, Serves, StopsRun};
 ghost use Rattle.srmtrun.specs.Words.{texts, Takes};
 
-use crate::answer::{Finished, RunAnswer};
+use crate::answer::{CompileRefusal, Finished, RunAnswer};
 use crate::first_form::FormRefusal;
 use crate::lowering::lower_first_form;
 use crate::reading::read_first_form;
@@ -35,6 +35,52 @@ const LIMITS: Limits = Limits {
     depth: 1_000,
     cells: 1_048_576,
 };
+
+/// Runs the program that the words name on one thread. It always returns, and writes no note yet.
+pub fn srmtrun_still<F: Files, O: Outlet + Send, N: Sink>(
+    alloc: Global,
+    words: &[String],
+    files: &mut F,
+    outlet: &mut O,
+    notes: &mut N,
+) -> Finished
+    // A program whose file is told and of the first form runs, and gives its events and its end. Each
+    // other answer has its cause.
+    ensures told { (mode : Mode) (program bytes : List ℕ) (form : FirstForm) → Takes (texts words.now) mode program
+        → F.contents files.old program ≡ Some bytes → length bytes ≤ 1048576 → IsFirstForm bytes form
+        → AnswersForm form (O.events outlet.old) (O.events outlet.new) (Rose (F.faults files.old) (F.faults files.new)) (Rose (O.faults outlet.old) (O.faults outlet.new)) result.answer }
+
+    // When each answer comes.
+    ensures usage { (result.answer ≡ RunAnswer.Usage) ↔ ((mode : Mode) (program : List ℕ) → Takes (texts words.now) mode program → ⊥) }
+    ensures alone { (end : SourceEnd) → result.answer ≡ RunAnswer.Alone end → Names (texts words.now)
+        (λ program. (form : FirstForm) × IsSource (F.contents files.old program) form × (end ≡ end_of form) × Appends (O.events outlet.old) (O.events outlet.new) (events_of form)) }
+    ensures write_fault { result.answer ≡ RunAnswer.WriteFault → Names (texts words.now)
+        (λ program. (form : FirstForm) × IsSource (F.contents files.old program) form × AppendsPrefix (O.events outlet.old) (O.events outlet.new) (events_of form)) }
+    ensures write_failed { result.answer ≡ RunAnswer.WriteFault → Rose (O.faults outlet.old) (O.faults outlet.new) }
+    ensures read_failed { result.answer ≡ RunAnswer.ReadFault → Rose (F.faults files.old) (F.faults files.new) }
+    ensures too_long { result.answer ≡ RunAnswer.TooLong → Names (texts words.now) (λ program. IsTooLong (F.contents files.old program)) }
+    ensures form { result.answer ≡ RunAnswer.Refused CompileRefusal.Form → Names (texts words.now) (λ program. IsNoSource (F.contents files.old program)) }
+    ensures no_event { NeverRan result.answer → O.events outlet.new ≡ O.events outlet.old }
+
+    // What it asks of the files, and what it leaves.
+    ensures asks { (result.answer ≡ RunAnswer.Usage → ⊥) → Names (texts words.now) (AsksFor result.answer (F.asked files.old) (F.asked files.new)) }
+    ensures asks_nothing { result.answer ≡ RunAnswer.Usage → F.asked files.new ≡ F.asked files.old }
+    ensures contents { F.contents files.new ≡ F.contents files.old }
+    ensures read_faults { F.faults files.old ≤ F.faults files.new }
+    ensures write_faults { O.faults outlet.old ≤ O.faults outlet.new }
+
+    // The status of the answer, and no note.
+    ensures status { result.status ≡ status_of result.answer }
+    ensures noted { IsTrue result.noted }
+    ensures notes { notes.new ≡ notes.old }
+{
+    let answer = answer(alloc, words, files, outlet);
+    Finished {
+        status: answer.status(),
+        answer,
+        noted: true,
+    }
+}
 
 fn answer<F: Files, O: Outlet>(
     alloc: Global,
