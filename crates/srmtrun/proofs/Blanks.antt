@@ -1,6 +1,6 @@
 -- The blanks at the front of some bytes, and a gap in a spelling.
-use Rattle.std.proofs.Common.{◌≡◌, ℕ, zero, suc, ◌+◌, ◌<◌, ◌≤◌, Bool, true, false, cond, ◌&&◌, ◌==◌, eqb, ◌⊎◌, inl, inr, List, [], ◌∷◌, ◌++◌, length, refl, sym, ap, subst, ◌∙◌, add-zero, arith, rules}
-use Rattle.std.specs.Prelude.{count_by, IsTrue}
+use Rattle.std.proofs.Common.{◌≡◌, ℕ, ◌+◌, ◌≤◌, Bool, true, false, cond, ◌==◌, eqb, ◌⊎◌, inl, inr, List, [], ◌∷◌, ◌++◌, length, refl, sym, ap, subst, ◌∙◌, add-zero, arith}
+use Rattle.std.specs.Prelude.{count_by}
 use Rattle.std.specs.List.{list_all}
 use Rattle.std.proofs.lemmas.Bool.{and_parts}
 use Rattle.std.proofs.lemmas.List.Sums.{sum_by-cons}
@@ -31,11 +31,15 @@ split line [] = ([], record { front = refl; blank = refl; next = omega arith; so
 split line (c ∷ cs) = by (is_blank c) refl (split (cond (eqb c 10) (line + 1) line) cs)
   where
     by : (b : Bool) → is_blank c ≡ b → ((blanks : List ℕ) × IsSplit (cond (eqb c 10) (line + 1) line) cs blanks) → (blanks : List ℕ) × IsSplit line (c ∷ cs) blanks
-    by true e rest = (c ∷ rest.0, record {
-      front = rw e (ap (λ r. c ∷ r) rest.1.front);
-      blank = rw e rest.1.blank;
-      next = rw e (rest.1.next ∙ next_line (eqb c 10) line (line_feeds rest.0) ∙ ap (λ n. line + n) (sym (line_feeds-cons c rest.0)));
-      some = λ z. omega arith })
+    by true e rest = (
+      c ∷ rest.0,
+      record {
+        front = rw e (ap (λ r. c ∷ r) rest.1.front);
+        blank = rw e rest.1.blank;
+        next = rw e (rest.1.next ∙ next_line (eqb c 10) line (line_feeds rest.0) ∙ ap (λ n. line + n) (sym (line_feeds-cons c rest.0)));
+        some = λ z. omega arith;
+      },
+    )
     by false e rest = ([], record { front = rw e refl; blank = refl; next = rw e (omega arith); some = λ z. absurd cc })
 
 -- blanks and what begins with no blank are split there

@@ -1,20 +1,18 @@
 -- What the top call answers of a program that is told.
-use Rattle.std.proofs.Common.{◌≡◌, ◌⊎◌, ℕ, ◌≤◌, ◌<◌, List, [], ◌∷◌, ◌++◌, take, length, Option, Some, None, true, false, inl, inr, refl, sym, ap, subst, ◌∙◌, arith}
-use Rattle.std.specs.Prelude.{IfSome, option_map}
+use Rattle.std.proofs.Common.{◌≡◌, ◌⊎◌, ℕ, ◌≤◌, List, [], ◌∷◌, length, Option, Some, true, inl, inr, sym, ap, subst, ◌∙◌, arith}
+use Rattle.std.specs.Prelude.{IfSome}
 use Rattle.std.proofs.lemmas.Option.{same_Some}
 use Rattle.srmt_base.specs.declared.event.Event.{Event}
-use Rattle.srmt_base.specs.declared.trap.SourceEnd.{SourceEnd}
 use Rattle.srmt_outside.specs.Told.{Appends, AppendsPrefix}
 use Rattle.srmtrun.specs.declared.answer.RunAnswer.{RunAnswer}
 use Rattle.srmtrun.specs.declared.answer.RunAnswer.TheVariants.{Alone, Usage, ReadFault, TooLong, Refused, WriteFault, OutOfMemory}
-use Rattle.srmtrun.specs.declared.answer.CompileRefusal.TheVariants.{Form}
 use Rattle.srmtrun.specs.declared.first_form.FirstForm.{FirstForm}
 use Rattle.srmtrun.specs.declared.words.Mode.{Mode}
 use Rattle.srmtrun.specs.declared.words.Mode.TheVariants.{Single}
-use Rattle.srmtrun.specs.Answer.{NeverRan}
 use Rattle.srmtrun.specs.FirstForm.{IsFirstForm}
 use Rattle.srmtrun.specs.Meaning.{events_of, end_of}
-use Rattle.srmtrun.specs.Still.{Names, IsSource, IsNoSource, IsTooLong, AsksFor, AnswersForm, Serves}
+use Rattle.srmtrun.specs.Still.{Names, IsSource, IsNoSource, IsTooLong, AnswersForm}
+use Rattle.srmtrun.specs.Parts.{Serves}
 use Rattle.srmtrun.specs.Words.{flag_of, names_source, Takes}
 use Rattle.srmtrun.specs.Reading.{first_form}
 use Rattle.srmtrun.proofs.Form.{first_form_again}
@@ -58,9 +56,9 @@ module _ (told : Option (List ℕ)) (bytes : List ℕ) (form : FirstForm) (e : t
 
 -- A program that is told and of the first form is the one that was run.
 pub told_answers : (words : List (List ℕ)) (contents : List ℕ → Option (List ℕ)) (before after : Option (List Event)) (asks : RunAnswer → List ℕ → Type 0) (read_failed write_failed : Type 0) (answer : RunAnswer)
-  → (answer ≡ Usage → (mode : Mode) (program : List ℕ) → Takes words mode program → ⊥)
-  → ((answer ≡ Usage → ⊥) → Names words (λ program. Serves (contents program) before after read_failed write_failed answer × asks answer program))
-  → (mode : Mode) (program bytes : List ℕ) (form : FirstForm) → Takes words mode program → contents program ≡ Some bytes → length bytes ≤ 1048576 → IsFirstForm bytes form → AnswersForm form before after read_failed write_failed answer
+    → (answer ≡ Usage → (mode : Mode) (program : List ℕ) → Takes words mode program → ⊥)
+    → ((answer ≡ Usage → ⊥) → Names words (λ program. Serves (contents program) before after read_failed write_failed answer × asks answer program))
+    → (mode : Mode) (program bytes : List ℕ) (form : FirstForm) → Takes words mode program → contents program ≡ Some bytes → length bytes ≤ 1048576 → IsFirstForm bytes form → AnswersForm form before after read_failed write_failed answer
 told_answers words contents before after asks read_failed write_failed answer usage served mode program bytes form taken e within is =
     let n = served (λ u. usage u mode program taken) in
     let here : contents n.program ≡ Some bytes = ap contents (one_program words n.mode mode n.program program n.taken taken) ∙ e in

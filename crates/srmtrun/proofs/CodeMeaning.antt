@@ -1,6 +1,6 @@
 -- The middle code of a source of the first form means what the source does.
-use Rattle.std.proofs.Common.{◌≡◌, ℕ, zero, suc, ◌+◌, ◌%◌, ◌<◌, List, [], ◌∷◌, ◌++◌, length, get_or, map, Option, Some, refl, sym, ap, subst, ◌∙◌, arith, append_assoc, length-append}
-use Rattle.std.specs.Prelude.{slice_get, option_and_then}
+use Rattle.std.proofs.Common.{◌≡◌, ℕ, suc, ◌+◌, ◌%◌, List, [], ◌∷◌, ◌++◌, length, get_or, map, Some, refl, sym, ap, subst, ◌∙◌, arith, append_assoc, length-append}
+use Rattle.std.specs.Prelude.{slice_get}
 use Rattle.std.specs.List.{flat_map}
 use Rattle.std.proofs.lemmas.List.{get_or-append-add}
 use Rattle.std.proofs.lemmas.List.Concat.{flat_map-cons}
@@ -13,10 +13,8 @@ use Rattle.srmt_base.specs.declared.ty.Ty.TheVariants.{Int, UChar}
 use Rattle.srmt_base.specs.Convert.{convert_of}
 use Rattle.mid_code.specs.declared.program.MidLine.{MidLine}
 use Rattle.mid_code.specs.declared.program.MidProgram.{MidProgram}
-use Rattle.mid_code.specs.declared.mid.Mid.TheVariants.{Const, Conv, Put, Exit}
-use Rattle.mid_code.specs.Program.{line_at}
 use Rattle.mid_code.specs.Machine.{Machine, does, act, act_at}
-use Rattle.mid_code.specs.Meaning.{Step, On, Ends, step, step_by, preceded, then_run, exec, Finishes, Middle}
+use Rattle.mid_code.specs.Meaning.{On, Ends, step, step_by, preceded, then_run, exec, Finishes, Middle}
 use Rattle.srmtrun.specs.declared.first_form.PutConstant.{PutConstant}
 use Rattle.srmtrun.specs.declared.first_form.FirstForm.{FirstForm}
 use Rattle.srmtrun.specs.Meaning.{events_of, end_of}

@@ -1,7 +1,6 @@
 -- The two laws: what is read is of the first form, and what is of the first form is read.
-use Rattle.std.proofs.Common.{◌≡◌, ℕ, zero, suc, ◌+◌, ◌<◌, ◌≤◌, List, [], ◌∷◌, ◌++◌, length, get_or, ◌==◌, true, Option, Some, None, refl, sym, ap, subst, ◌∙◌, arith, inl, inr}
+use Rattle.std.proofs.Common.{◌≡◌, ℕ, zero, suc, ◌≤◌, List, [], ◌∷◌, ◌++◌, length, get_or, ◌==◌, true, Option, Some, None, refl, sym, ap, subst, ◌∙◌, arith, inl, inr}
 use Rattle.std.specs.Prelude.{codes}
-use Rattle.std.specs.Fmt.{decimal}
 use Rattle.std.proofs.lemmas.Bool.{eqb-true}
 use Rattle.std.proofs.lemmas.List.{nil_from_length}
 use Rattle.std.proofs.lemmas.List.Concat.{flat_map-cons}
@@ -10,12 +9,12 @@ use Rattle.std.specs.List.{flat_map, AllByRecursion}
 use Rattle.srmtrun.specs.declared.first_form.Constant.{Constant}
 use Rattle.srmtrun.specs.declared.first_form.PutConstant.{PutConstant}
 use Rattle.srmtrun.specs.declared.first_form.FirstForm.{FirstForm}
-use Rattle.srmtrun.specs.FirstForm.{is_blank, Piece, word, word_at, gap, Spells, head_pieces, put_pieces, tail_pieces, pieces, IsFirstForm}
+use Rattle.srmtrun.specs.FirstForm.{is_blank, Piece, word, word_at, gap, head_pieces, put_pieces, tail_pieces, IsFirstForm}
 use Rattle.srmtrun.specs.Place.{Place}
 use Rattle.srmtrun.specs.Reading.{◌>>=◌, begins, after_blanks, space, token, constant, head, put, puts, tail, first_form, skip_blanks}
 use Rattle.srmtrun.proofs.Blanks.{gap_takes, gap_again}
 use Rattle.srmtrun.proofs.Puts.{joined, puts_zero, puts_none, puts_first}
-use Rattle.srmtrun.proofs.Tokens.{bind_some, some_is, StandsAt, token_is, word_takes, line_takes, word_again, line_again, space_is, space_again, constant_is, constant_takes, constant_again, ends_digits}
+use Rattle.srmtrun.proofs.Tokens.{some_is, StandsAt, token_is, word_takes, line_takes, word_again, line_again, space_is, space_again, constant_is, constant_takes, constant_again, ends_digits}
 
 -- int main(void) {
 
@@ -103,9 +102,9 @@ puts_take (suc limit) at ps = by (put at) refl (λ after. puts_take limit after 
     by : (o : Option (PutConstant × Place)) → put at ≡ o → ((after : Place) → PutsTake limit after ps (puts limit after)) → PutsTake (suc limit) at ps (puts (suc limit) at)
     by None e more = subst (PutsTake (suc limit) at ps) (sym (puts_none (suc limit) at e)) (λ s. record { spelled = s; few = omega arith; ints = tt })
     by (Some x) e more = subst (PutsTake (suc limit) at ps) (sym (puts_first limit at x.1 x.0 e)) (λ s.
-      let others = more x.1 s in
-      let first = put_takes at x _ e others.spelled in
-      record { spelled = put_on at x.0 (puts limit x.1).0 ps first.0; few = omega (arith, others.few); ints = (first.1, others.ints) })
+        let others = more x.1 s in
+        let first = put_takes at x _ e others.spelled in
+        record { spelled = put_on at x.0 (puts limit x.1).0 ps first.0; few = omega (arith, others.few); ints = (first.1, others.ints) })
 
 -- statements that are spelled there are read, where no other stands behind them
 puts_again : (limit : ℕ) (read : List PutConstant) (at : Place) (ps : List Piece) → length read ≤ limit → AllByRecursion HoldsInt read → ((end : Place) → StandsAt end ps → put end ≡ None) → StandsAt at (flat_map put_pieces read ++ ps) → (after : Place) × (puts limit at ≡ (read, after)) × StandsAt after ps

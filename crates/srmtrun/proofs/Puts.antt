@@ -1,5 +1,5 @@
 -- The statements `putchar(D);` that were read, one after another.
-use Rattle.std.proofs.Common.{◌≡◌, ℕ, zero, suc, ◌+◌, ◌-◌, ◌<◌, List, [], ◌∷◌, ◌++◌, Some, None, refl, sym, ap, subst, ◌∙◌, arith, append_assoc}
+use Rattle.std.proofs.Common.{◌≡◌, ℕ, zero, suc, ◌+◌, ◌-◌, ◌<◌, List, [], ◌∷◌, ◌++◌, Some, None, refl, sym, ap, ◌∙◌, arith, append_assoc}
 use Rattle.srmtrun.specs.declared.first_form.PutConstant.{PutConstant}
 use Rattle.srmtrun.specs.Place.{Place}
 use Rattle.srmtrun.specs.Reading.{put, puts}

@@ -1,5 +1,5 @@
 -- What a run on one thread answers, from what its parts say.
-use Rattle.std.proofs.Common.{◌≡◌, ℕ, ◌+◌, ◌≤◌, List, [], ◌∷◌, ◌++◌, length, take, Option, Some, None, Result, Ok, Err, refl, sym, ap, subst, ◌∙◌, arith, append-nil}
+use Rattle.std.proofs.Common.{◌≡◌, ℕ, ◌+◌, ◌≤◌, List, [], ◌∷◌, ◌++◌, length, take, Option, Result, Ok, Err, refl, sym, ap, subst, ◌∙◌, arith}
 use Rattle.std.specs.Prelude.{IfSome, IfOk, IfErr, option_map}
 use Rattle.std.proofs.Math.Seq.{take-append_seam, take-length}
 use Rattle.std.proofs.lemmas.Option.{IfSome_then}
@@ -21,7 +21,8 @@ use Rattle.srmtrun.specs.Answer.{answer_from, refused}
 use Rattle.srmtrun.specs.FirstForm.{IsFirstForm}
 use Rattle.srmtrun.specs.Lowered.{Implements}
 use Rattle.srmtrun.specs.Meaning.{events_of, end_of}
-use Rattle.srmtrun.specs.Still.{IsSource, IsNoSource, AsksFor, Serves, StopsRun}
+use Rattle.srmtrun.specs.Still.{AsksFor}
+use Rattle.srmtrun.specs.Parts.{Serves, StopsRun}
 
 -- a run that has not ended has written the first events of the whole run
 ended_front : (before : List Event) (r : Run) (fs : List Event) (end : SourceEnd) → preceded before r ≡ Ended end fs → take (length before) fs ≡ before

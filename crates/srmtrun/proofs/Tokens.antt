@@ -1,5 +1,5 @@
 -- What a token, a constant and a blank take of a spelling, and that no other does.
-use Rattle.std.proofs.Common.{◌≡◌, ℕ, zero, suc, ◌+◌, ◌<◌, ◌≤◌, Bool, true, false, cond, List, [], ◌∷◌, ◌++◌, length, take, drop, Option, Some, None, nat_eq, refl, sym, ap, subst, ◌∙◌, arith, inl, inr, take-append-drop}
+use Rattle.std.proofs.Common.{◌≡◌, ℕ, ◌<◌, ◌≤◌, true, false, List, [], ◌∷◌, ◌++◌, length, take, drop, Option, Some, None, nat_eq, refl, sym, ap, subst, ◌∙◌, arith, take-append-drop}
 use Rattle.std.proofs.Math.Seq.{take-append_seam, drop-append_seam}
 use Rattle.std.specs.Char.{is_ascii_digit, digit_value}
 use Rattle.std.specs.Fmt.{decimal}
@@ -13,7 +13,7 @@ use Rattle.std.proofs.lemmas.Bool.Decides.{nat_tests}
 use Rattle.srmtrun.specs.declared.first_form.Constant.{Constant}
 use Rattle.srmtrun.specs.FirstForm.{is_blank, Piece, word, word_at, gap, Spells}
 use Rattle.srmtrun.specs.Place.{Place}
-use Rattle.srmtrun.specs.Reading.{◌>>=◌, begins, after_blanks, skip_blanks, space, token, value_of, constant}
+use Rattle.srmtrun.specs.Reading.{◌>>=◌, begins, skip_blanks, space, token, value_of, constant}
 use Rattle.srmtrun.proofs.Blanks.{IsVisible, Owes, gap_takes, gap_again, gap_begins}
 use Rattle.srmtrun.proofs.Digits.{front_digits, prefix_len-digits, decimal_digits, value_takes, value_of-decimal}
 
@@ -121,7 +121,8 @@ constant_is at c after e =
       most = subst (λ n. n ≤ 2147483647) value d.1;
       line_is = sym (ap (λ (x : Constant × Place). x.0.line) is);
       after_is = sym (ap (λ (x : Constant × Place). x.1.line) is);
-      bytes_are = sym (take-append-drop count bytes) ∙ ap (λ ds. ds ++ drop count bytes) (sym d.0) ∙ ap (λ n. decimal n ++ drop count bytes) value ∙ ap (λ r. decimal c.value ++ r) rest }
+      bytes_are = sym (take-append-drop count bytes) ∙ ap (λ ds. ds ++ drop count bytes) (sym d.0) ∙ ap (λ n. decimal n ++ drop count bytes) value ∙ ap (λ r. decimal c.value ++ r) rest;
+    }
 
 digit_no_blank : (c : ℕ) → digit_value c < 10 → is_blank c ≡ false
 digit_no_blank c h = let k = digit_from_value c h in grind (arith, nat_tests)

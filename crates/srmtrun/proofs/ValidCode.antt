@@ -1,32 +1,20 @@
 -- The middle code of a source of the first form is valid.
-use Rattle.std.proofs.Common.{◌≡◌, ℕ, zero, suc, ◌+◌, ◌-◌, ◌*◌, ◌%◌, ◌^◌, ◌<◌, ◌≤◌, List, [], ◌∷◌, ◌++◌, length, take, get_or, map, Option, Some, None, refl, sym, ap, subst, ◌∙◌, arith, append_assoc, length-append}
-use Rattle.std.specs.Prelude.{slice_get, All}
+use Rattle.std.proofs.Common.{◌≡◌, ℕ, ◌+◌, ◌-◌, ◌*◌, ◌≤◌, List, [], ◌∷◌, ◌++◌, length, take, get_or, Some, refl, sym, ap, subst, ◌∙◌, arith, append_assoc, length-append}
+use Rattle.std.specs.Prelude.{slice_get}
 use Rattle.std.specs.List.{flat_map, AllByRecursion}
 use Rattle.std.proofs.Math.Seq.{get_or-append_seam}
-use Rattle.std.proofs.lemmas.List.{get_or-append-add}
 use Rattle.std.proofs.lemmas.List.Concat.{flat_map-cons}
 use Rattle.std.proofs.lemmas.List.Elements.{All-nil, All-from_recursion}
-use Rattle.std.proofs.lemmas.Option.{same_Some, slice_get_within, slice_get_read, get_or_from_slice_get}
-use Rattle.srmt_base.specs.declared.event.Event.{Event}
-use Rattle.srmt_base.specs.declared.event.Event.TheVariants.{Byte, Exit as ExitEvent}
-use Rattle.srmt_base.specs.declared.limits.Limits.{Limits}
-use Rattle.srmt_base.specs.declared.trap.SourceEnd.{SourceEnd}
-use Rattle.srmt_base.specs.declared.ty.Ty.TheVariants.{Int, UChar}
-use Rattle.srmt_base.specs.Convert.{convert_of}
+use Rattle.std.proofs.lemmas.Option.{same_Some, get_or_from_slice_get}
 use Rattle.mid_code.specs.declared.program.RegisterKind.TheVariants.{Number}
 use Rattle.mid_code.specs.declared.program.FunType.{FunType}
 use Rattle.mid_code.specs.declared.program.MidLine.{MidLine}
-use Rattle.mid_code.specs.declared.program.MidProgram.{MidProgram}
-use Rattle.mid_code.specs.declared.mid.Mid.TheVariants.{Const, Conv, Put, Exit}
-use Rattle.mid_code.specs.Program.{line_at}
+use Rattle.mid_code.specs.declared.mid.Mid.TheVariants.{Const, Exit}
 use Rattle.mid_code.specs.Valid.{AreFit, IsFinal, IsValidType, IsValidStatic, IsValidFunction, IsValid}
-use Rattle.mid_code.specs.Machine.{Machine, does, act, act_at}
-use Rattle.mid_code.specs.Meaning.{Step, On, Ends, step, step_by, preceded, then_run, exec, Finishes, Middle}
 use Rattle.mid_code.proofs.Fitting.{found_one}
 use Rattle.srmtrun.specs.declared.first_form.PutConstant.{PutConstant}
 use Rattle.srmtrun.specs.declared.first_form.FirstForm.{FirstForm}
 use Rattle.srmtrun.specs.FirstForm.{IsFirstForm}
-use Rattle.srmtrun.specs.Meaning.{events_of, end_of}
 use Rattle.srmtrun.specs.Lowered.{put_code, tail_code, code_of, main_of, program_of}
 
 length-put_code : (puts : List PutConstant) → length (flat_map put_code puts) ≡ 3 * length puts

@@ -6,3 +6,4 @@ pub mod Lowered
 pub mod Words
 pub mod Answer
 pub mod Still
+pub mod Parts

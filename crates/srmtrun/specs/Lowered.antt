@@ -4,7 +4,6 @@ use Rattle.std.specs.List.{flat_map}
 use Rattle.srmt_base.specs.declared.limits.Limits.{Limits}
 use Rattle.srmt_base.specs.declared.ty.Ty.TheVariants.{Int, UChar}
 use Rattle.mid_code.specs.declared.program.RegisterKind.TheVariants.{Number}
-use Rattle.mid_code.specs.declared.program.FunType.{FunType}
 use Rattle.mid_code.specs.declared.program.MidLine.{MidLine}
 use Rattle.mid_code.specs.declared.program.MidFunction.{MidFunction}
 use Rattle.mid_code.specs.declared.program.MidProgram.{MidProgram}

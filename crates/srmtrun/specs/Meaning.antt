@@ -1,5 +1,5 @@
 -- What a source of the first form does.
-use Rattle.std.specs.Prelude.{ℕ, ◌%◌, List, [], ◌∷◌, ◌++◌, map}
+use Rattle.std.specs.Prelude.{◌%◌, List, [], ◌∷◌, ◌++◌, map}
 use Rattle.srmt_base.specs.declared.event.Event.{Event}
 use Rattle.srmt_base.specs.declared.event.Event.TheVariants.{Byte, Exit as ExitEvent}
 use Rattle.srmt_base.specs.declared.trap.SourceEnd.{SourceEnd}

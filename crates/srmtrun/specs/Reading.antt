@@ -1,5 +1,5 @@
 -- What the parts of the reader give, as functions on what is left of a source: what was read, and what is left then.
-use Rattle.std.specs.Prelude.{ℕ, zero, suc, ◌+◌, Bool, true, false, ◌==◌, ◌&&◌, nat_le, nat_lt, nat_eq, slice_index, if◌then◌else◌, List, [], ◌∷◌, length, drop, take, codes, Option, Some, None, option_and_then}
+use Rattle.std.specs.Prelude.{ℕ, zero, suc, ◌+◌, Bool, false, ◌==◌, ◌&&◌, nat_le, nat_lt, nat_eq, slice_index, if◌then◌else◌, List, [], ◌∷◌, length, drop, take, codes, Option, Some, None, option_and_then}
 use Rattle.std.specs.Option.{option_map}
 use Rattle.std.specs.List.{prefix_len}
 use Rattle.std.specs.Cmp.Lexicographic.{pointwise}

@@ -2,9 +2,6 @@
 use Rattle.std.specs.Prelude.{◌≡◌, ℕ, ◌<◌, ◌≤◌, List, [], ◌∷◌, length, Option, IfSome}
 use Rattle.srmt_base.specs.declared.event.Event.{Event}
 use Rattle.srmt_base.specs.declared.trap.SourceEnd.{SourceEnd}
-use Rattle.srmt_base.specs.declared.limits.Limits.{Limits}
-use Rattle.mid_code.specs.declared.program.MidProgram.{MidProgram}
-use Rattle.mid_code.specs.Meaning.{Middle}
 use Rattle.srmt_outside.specs.Told.{Appends, AppendsPrefix}
 use Rattle.srmtrun.specs.declared.answer.RunAnswer.{RunAnswer}
 use Rattle.srmtrun.specs.declared.answer.RunAnswer.TheVariants.{Alone, Usage, ReadFault, TooLong, Refused, WriteFault, OutOfMemory}
@@ -36,6 +33,14 @@ IsNoSource told = IfSome told (λ bytes. (length bytes ≤ 1048576) × ((form : 
 abbrev pub IsTooLong : Option (List ℕ) → Type 0
 IsTooLong told = IfSome told (λ bytes. 1048576 < length bytes)
 
+-- the file is a source of some form, and these are all its events and its end
+abbrev pub RunsToEnd : Option (List ℕ) → Option (List Event) → Option (List Event) → SourceEnd → Type 0
+RunsToEnd told before after end = (form : FirstForm) × IsSource told form × (end ≡ end_of form) × Appends before after (events_of form)
+
+-- the file is a source of some form, and these are its first events
+abbrev pub StopsWriting : Option (List ℕ) → Option (List Event) → Option (List Event) → Type 0
+StopsWriting told before after = (form : FirstForm) × IsSource told form × AppendsPrefix before after (events_of form)
+
 -- the name is asked for, once; where memory ran out, at most once
 abbrev pub AsksFor : RunAnswer → Option (List (List ℕ)) → Option (List (List ℕ)) → List ℕ → Type 0
 AsksFor OutOfMemory before after name = AppendsPrefix before after (name ∷ [])
@@ -50,19 +55,3 @@ AnswersForm form before after read_failed write_failed OutOfMemory = after ≡ b
 AnswersForm form before after read_failed write_failed Usage = ⊥
 AnswersForm form before after read_failed write_failed TooLong = ⊥
 AnswersForm form before after read_failed write_failed (Refused cause) = ⊥
-
--- What an answer says of the program's file and of the events, for each answer but Usage.
-abbrev pub Serves : Option (List ℕ) → Option (List Event) → Option (List Event) → Type 0 → Type 0 → RunAnswer → Type 0
-Serves told before after read_failed write_failed (Alone end) = (form : FirstForm) × IsSource told form × (end ≡ end_of form) × Appends before after (events_of form)
-Serves told before after read_failed write_failed WriteFault = write_failed × ((form : FirstForm) × IsSource told form × AppendsPrefix before after (events_of form))
-Serves told before after read_failed write_failed ReadFault = read_failed × (after ≡ before)
-Serves told before after read_failed write_failed TooLong = IsTooLong told × (after ≡ before)
-Serves told before after read_failed write_failed (Refused cause) = IsNoSource told × (after ≡ before)
-Serves told before after read_failed write_failed OutOfMemory = after ≡ before
-Serves told before after read_failed write_failed Usage = ⊥
-
--- why a valid program has not run to its end
-abbrev pub StopsRun : MidProgram → Limits → Option (List Event) → Option (List Event) → Type 0 → RunAnswer → Type 0
-StopsRun program limits before after write_failed WriteFault = write_failed × ((events : List Event) (end : SourceEnd) → Middle program [] limits events end → AppendsPrefix before after events)
-StopsRun program limits before after write_failed OutOfMemory = after ≡ before
-StopsRun program limits before after write_failed _ = ⊥

@@ -24,7 +24,8 @@ pub fn read_first_form(alloc: Global, source: &[u8]) -> Result<FirstForm, FormRe
     requires { length source.now + 1 < 2 ^ 32 }
     ensures found { IfOk result (IsFirstForm source.now) }
     ensures one { (a b : FirstForm) → IsFirstForm source.now a → IsFirstForm source.now b → a ≡ b }
-    ensures none { IsErrOf result FormRefusal.Form → (form : FirstForm) → IsFirstForm source.now form → ⊥ }
+    ensures none { IsErrOf result FormRefusal.Form
+        → (form : FirstForm) → IsFirstForm source.now form → ⊥ }
 {
     whole(alloc, source)
 }
@@ -134,7 +135,10 @@ fn digit_count(bytes: &[u8]) -> usize
     ensures count { result ≡ prefix_len is_ascii_digit bytes.now }
     ensures within { result ≤ length bytes.now }
 {
-    bytes.iter().take_while(|byte| byte.is_ascii_digit()).count()
+    bytes
+        .iter()
+        .take_while(|byte| byte.is_ascii_digit())
+        .count()
 }
 
 /// The value of a constant with these digits.

@@ -12,7 +12,8 @@ pub enum Mode {
 /// The mode and the name of the program, where the words are taken.
 pub fn read_words(words: &[String]) -> Option<(Mode, &str)>
     ensures some { IfSome result (λ x. Takes (texts words.now) x.0 x.1.now) }
-    ensures none { IfNone result ((mode : Mode) (program : List ℕ) → Takes (texts words.now) mode program → ⊥) }
+    ensures none { IfNone result
+        ((mode : Mode) (program : List ℕ) → Takes (texts words.now) mode program → ⊥) }
 {
     let [first, second] = words else {
         return None;

@@ -1,4 +1,3 @@
-use Rattle.std.proofs.Common.{◌≡◌}
 use Rattle.std.proofs.lemmas.Result.{err_from_is_err_and}
 use Rattle.srmtrun.proofs.Serving.{prefix_written}
 use Rattle.srmtrun.specs.declared.still.TheConstants.{LIMITS}

@@ -11,7 +11,7 @@ pub returns-in_err-program-clause-serves : goal.returns-in_err-program-clause-se
 returns-in_err-program-clause-serves g c =
     let p = err_from_is_err_and c.from_residual-in_err-program.result c.from_residual-in_err-program.ensures.1 in
     let none : c.in_err-program.field-0.0 ≡ Form → (form : FirstForm) → IsFirstForm c.in_ok-source.source.items form → ⊥ =
-        λ e form is. c.in_err-program.ensures.none (ap Err e) form (subst (λ (b : List ℕ). IsFirstForm b form) (sym c.deref.ensures.value) is) in
+    λ e form is. c.in_err-program.ensures.none (ap Err e) form (subst (λ (b : List ℕ). IsFirstForm b form) (sym c.deref.ensures.value) is) in
     rw (p.1, p.2) (refused_serves (g.F.Files.contents c.args.files.now c.args.name.now) (g.O.Outlet.events c.args.outlet.now) (g.O.Outlet.events c.args.outlet.now) _ _ c.in_ok-source.source.items c.in_ok-source.ensures.told c.in_ok-source.ensures.within c.in_err-program.field-0.0 none)
 
 pub returns-in_err-program-clause-asks : goal.returns-in_err-program-clause-asks
