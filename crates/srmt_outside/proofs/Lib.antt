@@ -1,3 +1,2 @@
 pub mod Shelves
-pub mod Telling
 pub mod Told
