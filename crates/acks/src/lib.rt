@@ -2,7 +2,7 @@
 //!
 //! An end sends into one queue and takes from the other: words go to the trailing side, and
 //! acknowledgements come back. It looks at the other side only where it must, after it has
-//! published and released all that is its own, so that the two sides never wait for each other.
+//! published and released all that is its own, so that it holds back nothing the other side needs.
 //! It is a `Link` of the crate `machine` and stands on `batch_queue`. Only `ends` takes memory.
 #![tactic(auto)]
 

@@ -4,6 +4,7 @@ pub mod Files
 pub mod MemFiles
 pub mod MemOutlet
 pub mod MemSink
+pub mod RealOutlet
 pub mod Shelf
 pub mod SureFiles
 pub mod SureOutlet

@@ -1,5 +1,7 @@
-ghost use Rattle.std.specs.Prelude.{◌≡◌, ◌^◌, ◌<◌, ◌≤◌, if◌then◌else◌, is_ok};
+ghost use Rattle.std.specs.Prelude.{◌≡◌, ◌^◌, ◌<◌, ◌≤◌, if◌then◌else◌, is_ok, OnOk};
+ghost use Rattle.std.specs.Io.KnownBytes as known;
 ghost use Rattle.srmt_outside.specs.Count.{next_count};
+ghost use Rattle.srmt_outside.specs.RealOutlet.{output_of, line_of};
 
 use crate::{Failed, Outlet};
 use srmt_base::Event;
@@ -62,7 +64,12 @@ impl<O: Write, E: Write> Outlet for RealOutlet<O, E> {
 
 // Each byte goes out by a write of its own. `write_all` takes a write of no byte as an error, and
 // tries again where a signal came between.
-fn write<O: Write, E: Write>(output: &mut O, errors: &mut E, event: Event) -> io::Result<()> {
+fn write<O: Write, E: Write>(output: &mut O, errors: &mut E, event: Event) -> io::Result<()>
+    ensures bytes { OnOk result
+        (known.Appends (O.contents output.old) (O.contents output.new) (output_of event)) }
+    ensures lines { OnOk result
+        (known.Appends (E.contents errors.old) (E.contents errors.new) (line_of event)) }
+{
     match event {
         Event::Byte(byte) => output.write_all(&[byte]),
         Event::PortRead(object, offset) => writeln!(errors, "read {object} {offset}"),

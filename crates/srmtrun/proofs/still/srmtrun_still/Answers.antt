@@ -1,0 +1,6 @@
+use Rattle.srmtrun.proofs.Clauses.{told_answers}
+use Rattle.srmtrun.specs.Still.{AsksFor}
+use Rattle.srmtrun.proofs.still.srmtrun_still.Goals as goal
+
+pub returns-clause-told : goal.returns-clause-told
+returns-clause-told g c = told_answers _ _ _ _ (λ answer program. AsksFor answer (g.F.Files.asked c.args.files.now) (g.F.Files.asked c.answer-answer.new.files) program) _ _ _ c.answer-answer.ensures.usage.0 c.answer-answer.ensures.serves

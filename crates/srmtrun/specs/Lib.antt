@@ -1,0 +1,9 @@
+pub mod FirstForm
+pub mod Place
+pub mod Reading
+pub mod Meaning
+pub mod Lowered
+pub mod Words
+pub mod Answer
+pub mod Still
+pub mod Parts

@@ -1,0 +1,23 @@
+-- The words of a command.
+use Rattle.std.specs.Prelude.{◌≡◌, ℕ, Bool, not, ◌&&◌, ◌⊎◌, nat_eq, List, [], ◌∷◌, map, codes, IsTrue, String, string_bytes}
+use Rattle.std.specs.List.{starts_with, ends_with}
+use Rattle.std.specs.declared.alloc.Global.{Global}
+use Rattle.srmtrun.specs.declared.words.Mode.{Mode}
+use Rattle.srmtrun.specs.declared.words.Mode.TheVariants.{Single}
+
+-- the bytes of each word
+abbrev pub texts : List (String Global) → List (List ℕ)
+texts words = map string_bytes words
+
+-- the flag that asks for a mode
+abbrev pub flag_of : Mode → List ℕ
+flag_of Single = codes "--single"
+
+-- a word names a source: it begins as no flag does, and ends as no object file does
+abbrev pub names_source : List ℕ → Bool
+names_source word = not (starts_with nat_eq word (codes "-")) && not (ends_with nat_eq word (codes ".srm"))
+
+-- the words are taken: the name of a source and the flag of a mode, in either order
+pub record Takes (words : List (List ℕ)) (mode : Mode) (program : List ℕ) : Type 0 where
+  pub order : (words ≡ program ∷ flag_of mode ∷ []) ⊎ (words ≡ flag_of mode ∷ program ∷ [])
+  pub source : IsTrue (names_source program)

@@ -1,0 +1,100 @@
+ghost use Rattle.std.specs.Prelude.{◌≡◌};
+ghost use Rattle.srmtrun.specs.declared.answer.RunAnswer.TheVariants.{OutOfMemory, WriteFault};
+ghost use Rattle.srmtrun.specs.Answer.{status_of, unread, refused};
+
+use crate::first_form::FormRefusal;
+use srmt_base::SourceEnd;
+use srmt_outside::{Failed, FileFault};
+use std::alloc::AllocError;
+
+/// How a call has ended.
+#[derive(Clone, Copy, Debug, PartialEq, Eq)]
+pub struct Finished {
+    /// The status with which the process is to end.
+    pub status: u8,
+    pub answer: RunAnswer,
+    /// Whether all notes were written.
+    pub noted: bool,
+}
+
+/// What a call answers.
+#[derive(Clone, Copy, Debug, PartialEq, Eq)]
+pub enum RunAnswer {
+    /// The program ran on one thread, and ended so.
+    Alone(SourceEnd),
+    /// The words are not taken.
+    Usage,
+    /// A file was not read.
+    ReadFault,
+    /// A file is longer than its limit.
+    TooLong,
+    /// The program was refused.
+    Refused(CompileRefusal),
+    /// An event was not written.
+    WriteFault,
+    /// Memory ran out.
+    OutOfMemory,
+}
+
+/// Why a program is refused.
+#[derive(Clone, Copy, Debug, PartialEq, Eq)]
+pub enum CompileRefusal {
+    /// It is not of the first form.
+    Form,
+}
+
+impl RunAnswer {
+    /// The status with which the process is to end: a program's own where it ended with one.
+    pub fn status(self) -> u8
+        ensures { result ≡ status_of self }
+    {
+        match self {
+            RunAnswer::Alone(SourceEnd::Exit(status)) => status,
+            RunAnswer::Alone(SourceEnd::Trap(trap, _)) if trap.is_budget() => 122,
+            RunAnswer::Alone(SourceEnd::Trap(..)) => 121,
+            RunAnswer::ReadFault | RunAnswer::TooLong | RunAnswer::WriteFault => 124,
+            RunAnswer::OutOfMemory => 125,
+            RunAnswer::Usage => 126,
+            RunAnswer::Refused(_) => 127,
+        }
+    }
+}
+
+impl From<FileFault> for RunAnswer {
+    ghost from_gives = { λ fault answer. answer ≡ unread fault };
+
+    fn from(fault: FileFault) -> RunAnswer {
+        match fault {
+            FileFault::Failed => RunAnswer::ReadFault,
+            FileFault::TooLong => RunAnswer::TooLong,
+            FileFault::Memory => RunAnswer::OutOfMemory,
+        }
+    }
+}
+
+impl From<FormRefusal> for RunAnswer {
+    ghost from_gives = { λ refusal answer. answer ≡ refused refusal };
+
+    fn from(refusal: FormRefusal) -> RunAnswer {
+        match refusal {
+            FormRefusal::Form => RunAnswer::Refused(CompileRefusal::Form),
+            FormRefusal::Memory => RunAnswer::OutOfMemory,
+        }
+    }
+}
+
+impl From<AllocError> for RunAnswer {
+    ghost from_gives = { λ _ answer. answer ≡ OutOfMemory };
+
+    fn from(_error: AllocError) -> RunAnswer {
+        RunAnswer::OutOfMemory
+    }
+}
+
+impl From<Failed> for RunAnswer {
+    ghost from_gives = { λ _ answer. answer ≡ WriteFault };
+
+    fn from(_failed: Failed) -> RunAnswer {
+        RunAnswer::WriteFault
+    }
+}

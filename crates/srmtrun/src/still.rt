@@ -1,0 +1,198 @@
+ghost use Rattle.std.specs.Prelude.{◌≡◌, ℕ, ◌+◌, ◌^◌, ◌<◌, ◌≤◌, ◌↔◌, List, [], Some, length, IsTrue, IfOk, IfErr, IfSome, IsErrOf};
+ghost use Rattle.srmt_base.specs.declared.event.Event.{Event};
+ghost use Rattle.srmt_base.specs.declared.trap.SourceEnd.{SourceEnd};
+ghost use Rattle.srmt_outside.specs.Count.{Rose};
+ghost use Rattle.srmt_outside.specs.Files.{Asks};
+ghost use Rattle.srmt_outside.specs.Told.{Appends};
+ghost use Rattle.mid_code.specs.Valid.{IsValid};
+ghost use Rattle.mid_code.specs.Meaning.{Middle};
+ghost use Rattle.srmtrun.specs.declared.first_form.FirstForm.{FirstForm};
+ghost use Rattle.srmtrun.specs.declared.words.Mode.{Mode};
+ghost use Rattle.srmtrun.specs.Answer.{status_of, answer_from, NeverRan};
+ghost use Rattle.srmtrun.specs.FirstForm.{IsFirstForm};
+ghost use Rattle.srmtrun.specs.Lowered.{Implements};
+ghost use Rattle.srmtrun.specs.Still.{Names, IsNoSource, IsTooLong, RunsToEnd, StopsWriting, AsksFor, AnswersForm};
+ghost use Rattle.srmtrun.specs.Parts.{Serves, StopsRun};
+ghost use Rattle.srmtrun.specs.Words.{texts, Takes};
+
+use crate::answer::{CompileRefusal, Finished, RunAnswer};
+use crate::first_form::FormRefusal;
+use crate::lowering::lower_first_form;
+use crate::reading::read_first_form;
+use crate::words::{Mode, read_words};
+use mid_code::MidProgram;
+use mid_run::MidRun;
+use srmt_base::{Limits, SourceEnd};
+use srmt_outside::{FileFault, Files, Outlet, Sink};
+use std::alloc::Global;
+
+/// The largest source, in bytes.
+const SOURCE_LIMIT: u64 = 1_048_576;
+
+/// The budgets of a run.
+const LIMITS: Limits = Limits {
+    turns: 100_000_000,
+    depth: 1_000,
+    cells: 1_048_576,
+};
+
+/// Runs the program that the words name on one thread. It always returns, and writes no note yet.
+pub fn srmtrun_still<F: Files, O: Outlet + Send, N: Sink>(
+    alloc: Global,
+    words: &[String],
+    files: &mut F,
+    outlet: &mut O,
+    notes: &mut N,
+) -> Finished
+    // A program whose file is told and is of the first form runs to its end, with all its events.
+    // Each other answer has its cause.
+    ensures told { (mode : Mode) (program bytes : List ℕ) (form : FirstForm)
+        → Takes (texts words.now) mode program
+        → F.contents files.old program ≡ Some bytes
+        → length bytes ≤ 1048576
+        → IsFirstForm bytes form
+        → AnswersForm form (O.events outlet.old) (O.events outlet.new)
+        (Rose (F.faults files.old) (F.faults files.new))
+        (Rose (O.faults outlet.old) (O.faults outlet.new)) result.answer }
+
+    // When each answer comes.
+    ensures usage { (result.answer ≡ RunAnswer.Usage)
+        ↔ ((mode : Mode) (program : List ℕ) → Takes (texts words.now) mode program → ⊥) }
+    ensures alone { (end : SourceEnd) → result.answer ≡ RunAnswer.Alone end
+        → Names (texts words.now) (λ program. RunsToEnd (F.contents files.old program)
+        (O.events outlet.old) (O.events outlet.new) end) }
+    ensures write_fault { result.answer ≡ RunAnswer.WriteFault → Names (texts words.now)
+        (λ program. StopsWriting (F.contents files.old program)
+        (O.events outlet.old) (O.events outlet.new)) }
+    ensures write_failed { result.answer ≡ RunAnswer.WriteFault
+        → Rose (O.faults outlet.old) (O.faults outlet.new) }
+    ensures read_failed { result.answer ≡ RunAnswer.ReadFault
+        → Rose (F.faults files.old) (F.faults files.new) }
+    ensures too_long { result.answer ≡ RunAnswer.TooLong → Names (texts words.now)
+        (λ program. IsTooLong (F.contents files.old program)) }
+    ensures form { result.answer ≡ RunAnswer.Refused CompileRefusal.Form → Names (texts words.now)
+        (λ program. IsNoSource (F.contents files.old program)) }
+    ensures no_event { NeverRan result.answer → O.events outlet.new ≡ O.events outlet.old }
+
+    // What it asks of the files, and what it leaves.
+    ensures asks { (result.answer ≡ RunAnswer.Usage → ⊥) → Names (texts words.now)
+        (AsksFor result.answer (F.asked files.old) (F.asked files.new)) }
+    ensures asks_nothing { result.answer ≡ RunAnswer.Usage → F.asked files.new ≡ F.asked files.old }
+    ensures contents { F.contents files.new ≡ F.contents files.old }
+    ensures read_faults { F.faults files.old ≤ F.faults files.new }
+    ensures write_faults { O.faults outlet.old ≤ O.faults outlet.new }
+
+    // The status of the answer, and no note.
+    ensures status { result.status ≡ status_of result.answer }
+    ensures noted { IsTrue result.noted }
+    ensures notes { notes.new ≡ notes.old }
+{
+    let answer = answer(alloc, words, files, outlet);
+    Finished {
+        status: answer.status(),
+        answer,
+        noted: true,
+    }
+}
+
+/// The answer of a run on one thread.
+fn answer<F: Files, O: Outlet>(
+    alloc: Global,
+    words: &[String],
+    files: &mut F,
+    outlet: &mut O,
+) -> RunAnswer
+    ensures usage { (result ≡ RunAnswer.Usage)
+        ↔ ((mode : Mode) (program : List ℕ) → Takes (texts words.now) mode program → ⊥) }
+    ensures unread { result ≡ RunAnswer.Usage → F.asked files.new ≡ F.asked files.old }
+    ensures unwritten { result ≡ RunAnswer.Usage → O.events outlet.new ≡ O.events outlet.old }
+    ensures serves { (result ≡ RunAnswer.Usage → ⊥) → Names (texts words.now)
+        (λ program. Serves (F.contents files.old program)
+        (O.events outlet.old) (O.events outlet.new)
+        (Rose (F.faults files.old) (F.faults files.new))
+        (Rose (O.faults outlet.old) (O.faults outlet.new)) result
+        × AsksFor result (F.asked files.old) (F.asked files.new) program) }
+    ensures contents { F.contents files.new ≡ F.contents files.old }
+    ensures read_faults { F.faults files.old ≤ F.faults files.new }
+    ensures write_faults { O.faults outlet.old ≤ O.faults outlet.new }
+{
+    let Some((mode, program)) = read_words(words) else {
+        return RunAnswer::Usage;
+    };
+    let end = match mode {
+        Mode::Single => single(alloc, program, files, outlet),
+    };
+    match end {
+        Ok(end) => RunAnswer::Alone(end),
+        Err(answer) => answer,
+    }
+}
+
+/// Runs a source on one thread, to its end or to the answer that stopped it.
+fn single<F: Files, O: Outlet>(
+    alloc: Global,
+    name: &str,
+    files: &mut F,
+    outlet: &mut O,
+) -> Result<SourceEnd, RunAnswer>
+    ensures serves { Serves (F.contents files.old name.now)
+        (O.events outlet.old) (O.events outlet.new)
+        (Rose (F.faults files.old) (F.faults files.new))
+        (Rose (O.faults outlet.old) (O.faults outlet.new)) (answer_from result) }
+    ensures asks { AsksFor (answer_from result) (F.asked files.old) (F.asked files.new) name.now }
+    ensures contents { F.contents files.new ≡ F.contents files.old }
+    ensures read_faults { F.faults files.old ≤ F.faults files.new }
+    ensures write_faults { O.faults outlet.old ≤ O.faults outlet.new }
+{
+    let source = load(alloc, name, files)?;
+    let program = compile(alloc, &source)?;
+    run(alloc, &program, outlet)
+}
+
+/// The bytes of a source.
+fn load<F: Files>(alloc: Global, name: &str, files: &mut F) -> Result<Vec<u8>, FileFault>
+    ensures told { IfOk result
+        (λ source. IfSome (F.contents files.old name.now) (λ told. told ≡ source.items)) }
+    ensures within { IfOk result (λ source. length source.items ≤ 1048576) }
+    ensures too_long { IsErrOf result FileFault.TooLong
+        → IsTooLong (F.contents files.old name.now) }
+    ensures failed { IsErrOf result FileFault.Failed
+        → Rose (F.faults files.old) (F.faults files.new) }
+    ensures never_falls { F.faults files.old ≤ F.faults files.new }
+    ensures contents { F.contents files.new ≡ F.contents files.old }
+    ensures asks { Asks result (F.asked files.old) (F.asked files.new) name.now }
+{
+    let mut source = Vec::new(alloc);
+    files.read(alloc, name, &mut source, SOURCE_LIMIT)?;
+    Ok(source)
+}
+
+/// The middle code of a source.
+fn compile(alloc: Global, source: &[u8]) -> Result<MidProgram, FormRefusal>
+    requires { length source.now + 1 < 2 ^ 32 }
+    ensures ok { IfOk result
+        (λ program. (form : FirstForm) × IsFirstForm source.now form × Implements program form) }
+    ensures none { IsErrOf result FormRefusal.Form
+        → (form : FirstForm) → IsFirstForm source.now form → ⊥ }
+{
+    let form = read_first_form(alloc, source)?;
+    Ok(lower_first_form(alloc, &form)?)
+}
+
+/// Runs a program on one thread, to its end or to the answer that stopped it.
+fn run<O: Outlet>(
+    alloc: Global,
+    program: &MidProgram,
+    outlet: &mut O,
+) -> Result<SourceEnd, RunAnswer>
+    requires { IsValid program.now }
+    ensures ok { IfOk result (λ end. (events : List Event) × Middle program.now [] LIMITS events end
+        × Appends (O.events outlet.old) (O.events outlet.new) events) }
+    ensures err { IfErr result (StopsRun program.now LIMITS
+        (O.events outlet.old) (O.events outlet.new)
+        (Rose (O.faults outlet.old) (O.faults outlet.new))) }
+    ensures never_falls { O.faults outlet.old ≤ O.faults outlet.new }
+{
+    let mut run = MidRun::start(alloc, program, Vec::new(alloc), LIMITS)?;
+    Ok(run.run(program, outlet)?)
+}
