@@ -85,6 +85,7 @@ sound_act program m f (Const target value) line fits found count fit more = soun
 sound_act program m f (Conv from to target source) line fits found count fit more = sound_given program m f target (convert_of from to (register m source)) fits found (more (λ h. h)) count (small_converted from to (register m source))
 sound_act program m f (Put source) line fits found count fit more = sound_passed program m f fits found (more (λ h. h)) count
 sound_act program m f (Exit source) line fits found count fit more = tt
+sound_act program m f _ line fits found count fit more = absurd fit
 
 -- a step of a machine that fits
 pub sound_step : (program : MidProgram) (m : Machine) → IsValid program → Fits program m → IsSound program (step program m)
@@ -133,6 +134,7 @@ within_fit kinds (Const target value) fit = fit.0
 within_fit kinds (Conv from to target source) fit = (slice_get_within kinds target Number fit.0, slice_get_within kinds source Number fit.1)
 within_fit kinds (Put source) fit = slice_get_within kinds source Number fit
 within_fit kinds (Exit source) fit = slice_get_within kinds source Number fit
+within_fit kinds _ fit = absurd fit
 
 -- the registers of the next instruction are there
 pub within_next : (program : MidProgram) (m : Machine) (l : MidLine) → IsValid program → Fits program m → line_at program m.top.function m.top.place ≡ Some l → AreWithin (length m.top.registers) l.mid
@@ -164,6 +166,7 @@ next_place-act m next (Const target value) line events h = let e : given target 
 next_place-act m next (Conv from to target source) line events h = let e : given target (convert_of from to (register m source)) m ≡ next = cc in sym (ap (λ x. x.top.place) e)
 next_place-act m next (Put source) line events h = let e : passed m ≡ next = cc in sym (ap (λ x. x.top.place) e)
 next_place-act m next (Exit source) line events h = absurd (cc)
+next_place-act m next _ line events h = absurd (cc)
 
 next_place-at : (m next : Machine) (o : Option MidLine) (events : List Event) → step_by (act_at o m) m ≡ On next events → next.top.place ≡ m.top.place + 1
 next_place-at m next None events h = absurd (cc)

@@ -1,3 +1,4 @@
 pub mod Runs
 pub mod Fitting
 pub mod Fetching
+pub mod RegistersLemmas

@@ -26,3 +26,4 @@ AreWithin count (Const target value) = target < count
 AreWithin count (Conv from to target source) = (target < count) × (source < count)
 AreWithin count (Put source) = source < count
 AreWithin count (Exit source) = source < count
+AreWithin count _ = ⊥

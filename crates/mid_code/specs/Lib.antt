@@ -1,4 +1,5 @@
 pub mod Program
+pub mod Registers
 pub mod Valid
 pub mod Machine
 pub mod Classes

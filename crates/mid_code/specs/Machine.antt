@@ -57,6 +57,7 @@ act (Const target value) line m = Goes (given target value m)
 act (Conv from to target source) line m = Goes (given target (convert_of from to (register m source)) m)
 act (Put source) line m = Reaches (Puts (register m source))
 act (Exit source) line m = Reaches (Exits (register m source))
+act _ line m = Lost
 
 abbrev pub act_at : Option MidLine → Machine → Does
 act_at None m = Lost

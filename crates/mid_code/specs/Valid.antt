@@ -23,6 +23,7 @@ AreFit kinds (Const target value) = (target < length kinds) × (value < 2 ^ 44) 
 AreFit kinds (Conv from to target source) = HasKind kinds Number target × HasKind kinds Number source
 AreFit kinds (Put source) = HasKind kinds Number source
 AreFit kinds (Exit source) = HasKind kinds Number source
+AreFit kinds _ = ⊥
 
 -- nothing follows the instruction
 abbrev pub IsFinal : Mid → Type 0
@@ -30,6 +31,7 @@ IsFinal (Const target value) = ⊥
 IsFinal (Conv from to target source) = ⊥
 IsFinal (Put source) = ⊥
 IsFinal (Exit source) = Unit {0}
+IsFinal _ = ⊥
 
 pub record IsValidType (type : FunType) : Type 0 where
   pub params : length type.params ≤ 16

@@ -12,6 +12,7 @@ mod laws;
 mod mid;
 mod pair;
 mod program;
+mod registers;
 mod version;
 
 pub use access::Access;
@@ -20,4 +21,5 @@ pub use laws::{is_determined, is_never_stuck};
 pub use mid::Mid;
 pub use pair::{Classed, Pair};
 pub use program::{FunType, MidFunction, MidLine, MidProgram, RegisterKind, Static};
+pub use registers::Registers;
 pub use version::{Asks, Version, VersionLine, VersionOp};
