@@ -1,4 +1,3 @@
 pub mod Runs
-pub mod Fitting
 pub mod Fetching
 pub mod RegistersLemmas

@@ -6,4 +6,5 @@ pub mod Classes
 pub mod Versions
 pub mod Pairs
 pub mod Fits
+pub mod Start
 pub mod Meaning

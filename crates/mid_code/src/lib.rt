@@ -17,7 +17,7 @@ mod version;
 
 pub use access::Access;
 pub use class::Class;
-pub use laws::{is_determined, is_never_stuck};
+pub use laws::is_determined;
 pub use mid::Mid;
 pub use pair::{Classed, Pair};
 pub use program::{FunType, MidFunction, MidLine, MidProgram, RegisterKind, Static};
