@@ -1,11 +1,11 @@
 -- A run that stands within its program: what every state of a run of a valid program is like.
 use Rattle.std.specs.Prelude.{ℕ, ◌≡◌, ◌+◌, ◌^◌, ◌<◌, ◌≤◌, List, [], ◌∷◌, length, Some, All}
 use Rattle.srmt_base.specs.Objects.{Object, Objects}
-use Rattle.srmt_base.specs.Memory.{Memory, Part, Protected, Binary, first_number, last_number, objects_of, part_of_number}
+use Rattle.srmt_base.specs.Memory.{Part, Protected, Binary, first_number, last_number}
 use Rattle.mid_code.specs.declared.program.MidProgram.{MidProgram}
 use Rattle.mid_code.specs.declared.program.MidFunction.{MidFunction}
 use Rattle.mid_code.specs.Program.{function_at}
-use Rattle.mid_code.specs.Machine.{Activation, Budget, Machine}
+use Rattle.mid_code.specs.Machine.{Activation, Machine, activations, live_of, budget_of}
 use Rattle.mid_code.specs.Meaning.{State}
 
 -- a number of 44 bits, as registers and cells hold them
@@ -26,10 +26,10 @@ abbrev pub AreBelow : MidProgram → Activation → List Activation → Type 0
 AreBelow program above [] = above.function ≡ program.main
 AreBelow program above (caller ∷ rest) = (above.into < length caller.registers) × IsWithin program caller × AreBelow program caller rest
 
--- what is left to a part is no more than fitting limits allow
-pub record IsLeft (budget : Budget) : Type 0 where
-  pub turns : budget.turns ≤ 10 ^ 12
-  pub depth : budget.depth ≤ 1000
+-- what is left to a part, and its live activations with it, are no more than fitting limits allow
+pub record IsLeft (program : MidProgram) (part : Part) (m : Machine) : Type 0 where
+  pub turns : (budget_of part m).turns ≤ 10 ^ 12
+  pub depth : live_of program part (activations m) + (budget_of part m).depth ≤ 1000
 
 -- the cells of an object hold values
 abbrev pub HoldsValues : Object → Type 0
@@ -44,8 +44,8 @@ pub record IsPart (part : Part) (objects : Objects) : Type 0 where
 pub record Fits (program : MidProgram) (s : State) : Type 0 where
   pub top : IsWithin program s.machine.top
   pub below : AreBelow program s.machine.top s.machine.below
-  pub protected_left : IsLeft s.machine.protected
-  pub binary_left : IsLeft s.machine.binary
+  pub protected_left : IsLeft program Protected s.machine
+  pub binary_left : IsLeft program Binary s.machine
   pub protected : IsPart Protected s.memory.protected
   pub binary : IsPart Binary s.memory.binary
   pub input : All (λ byte. byte < 256) s.input

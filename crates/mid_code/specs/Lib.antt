@@ -8,3 +8,4 @@ pub mod Pairs
 pub mod Fits
 pub mod Start
 pub mod Meaning
+pub mod Keeps

@@ -105,6 +105,20 @@ moved_if false place m = passed m
 abbrev pub part_of_function : MidProgram → ℕ → Part
 part_of_function program function = part_if (nat_le function program.main_functions)
 
+-- all live activations, the newest first, and how many of them are of a part
+abbrev pub activations : Machine → List Activation
+activations m = m.top ∷ m.below
+
+abbrev pub one_if : Part → Part → ℕ
+one_if Protected Protected = 1
+one_if Binary Binary = 1
+one_if Protected Binary = 0
+one_if Binary Protected = 0
+
+abbrev pub live_of : MidProgram → Part → List Activation → ℕ
+live_of program part [] = 0
+live_of program part (a ∷ rest) = one_if part (part_of_function program a.function) + live_of program part rest
+
 -- what is left to a part
 abbrev pub budget_of : Part → Machine → Budget
 budget_of Protected m = m.protected
