@@ -1,7 +1,7 @@
 -- A run that stands within its program: what every state of a run of a valid program is like.
 use Rattle.std.specs.Prelude.{ℕ, ◌≡◌, ◌+◌, ◌^◌, ◌<◌, ◌≤◌, List, [], ◌∷◌, length, Some, All}
 use Rattle.srmt_base.specs.Objects.{Object, Objects}
-use Rattle.srmt_base.specs.Memory.{Part, Protected, Binary, first_number, last_number}
+use Rattle.srmt_base.specs.Memory.{Memory, Part, Protected, Binary, first_number, last_number}
 use Rattle.mid_code.specs.declared.program.MidProgram.{MidProgram}
 use Rattle.mid_code.specs.declared.program.MidFunction.{MidFunction}
 use Rattle.mid_code.specs.Program.{function_at}
@@ -41,11 +41,18 @@ pub record IsPart (part : Part) (objects : Objects) : Type 0 where
   pub last : objects.fresh ≤ last_number part + 1
   pub values : All HoldsValues objects.live
 
+-- the machine stands within its program
+pub record IsMachine (program : MidProgram) (m : Machine) : Type 0 where
+  pub top : IsWithin program m.top
+  pub below : AreBelow program m.top m.below
+  pub protected_left : IsLeft program Protected m
+  pub binary_left : IsLeft program Binary m
+
+pub record IsMemory (memory : Memory) : Type 0 where
+  pub protected : IsPart Protected memory.protected
+  pub binary : IsPart Binary memory.binary
+
 pub record Fits (program : MidProgram) (s : State) : Type 0 where
-  pub top : IsWithin program s.machine.top
-  pub below : AreBelow program s.machine.top s.machine.below
-  pub protected_left : IsLeft program Protected s.machine
-  pub binary_left : IsLeft program Binary s.machine
-  pub protected : IsPart Protected s.memory.protected
-  pub binary : IsPart Binary s.memory.binary
+  pub machine : IsMachine program s.machine
+  pub memory : IsMemory s.memory
   pub input : All (λ byte. byte < 256) s.input
