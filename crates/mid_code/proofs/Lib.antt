@@ -1,3 +1,5 @@
 pub mod Runs
 pub mod Fetching
 pub mod RegistersLemmas
+pub mod Values
+pub mod Standing
