@@ -1,5 +1,8 @@
 pub mod Program
 pub mod Registers
+pub mod Operands
+pub mod Flow
+pub mod Rules
 pub mod Valid
 pub mod Machine
 pub mod Classes

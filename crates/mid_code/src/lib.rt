@@ -12,6 +12,7 @@ mod laws;
 mod mid;
 mod pair;
 mod program;
+mod refusal;
 mod registers;
 mod version;
 
@@ -21,5 +22,6 @@ pub use laws::is_determined;
 pub use mid::Mid;
 pub use pair::{Classed, Pair};
 pub use program::{FunType, MidFunction, MidLine, MidProgram, RegisterKind, Static};
+pub use refusal::MidRefusal;
 pub use registers::Registers;
 pub use version::{Asks, Version, VersionLine, VersionOp};
