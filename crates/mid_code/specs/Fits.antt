@@ -1,10 +1,11 @@
 -- A run that stands within its program: what every state of a run of a valid program is like.
-use Rattle.std.specs.Prelude.{ℕ, ◌≡◌, ◌+◌, ◌^◌, ◌<◌, ◌≤◌, List, [], ◌∷◌, length, Some, All}
+use Rattle.std.specs.Prelude.{ℕ, ◌≡◌, ◌+◌, ◌^◌, ◌<◌, ◌≤◌, List, [], ◌∷◌, length, map, Some, All}
 use Rattle.srmt_base.specs.Objects.{Object, Objects}
 use Rattle.srmt_base.specs.Memory.{Memory, Part, Protected, Binary, first_number, last_number}
 use Rattle.mid_code.specs.declared.program.MidProgram.{MidProgram}
 use Rattle.mid_code.specs.declared.program.MidFunction.{MidFunction}
 use Rattle.mid_code.specs.Program.{function_at}
+use Rattle.mid_code.specs.Flow.{found_at}
 use Rattle.mid_code.specs.Machine.{Activation, Machine, activations, live_of, budget_of}
 use Rattle.mid_code.specs.Meaning.{State}
 
@@ -19,6 +20,8 @@ pub record IsWithin (program : MidProgram) (a : Activation) : Type 0 where
   pub place : a.place < length code.code
   pub registers : length a.registers ≡ length code.kinds
   pub each : All IsValue a.registers
+  -- its objects are those that are open at its place
+  pub opened : found_at code.code a.place ≡ Some (map (λ o. o.place) a.opened)
 
 -- the activations below one: each stands within, and has the register that takes the result of the one above it; the
 -- last is that of `main`
