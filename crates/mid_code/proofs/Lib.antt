@@ -4,3 +4,4 @@ pub mod Fetching
 pub mod RegistersLemmas
 pub mod Values
 pub mod Standing
+pub mod Flowing
