@@ -5,3 +5,5 @@ pub mod RegistersLemmas
 pub mod Values
 pub mod Standing
 pub mod Flowing
+pub mod Naming
+pub mod Acting

@@ -165,14 +165,14 @@ is_of_type ty None = false
 is_of_type ty (Some code) = code.ty == ty
 
 -- whether a value is the number of a function of a type that is not `main`
-abbrev pub is_callable : MidProgram → ℕ → ℕ → Bool
-is_callable program ty value = is_of_type ty (function_at program value) && not (value == program.main)
+abbrev pub is_callee : MidProgram → ℕ → ℕ → Bool
+is_callee program ty value = is_of_type ty (function_at program value) && not (value == program.main)
 
 -- a call of a value (C11 6.5.2.2p9)
 abbrev pub calls_value : MidProgram → ℕ → ℕ → ℕ → ℕ → List ℕ → Machine → Does
 calls_value program ty value line into values m =
     if value == 0 then Traps NullPointer line
-    else if is_callable program ty value then calls program value (function_at program value) into values m
+    else if is_callee program ty value then calls program value (function_at program value) into values m
     else Traps NotAFunction line
 
 -- a function is left: its caller takes the result, and its activation no longer counts (C11 6.8.6.4)
