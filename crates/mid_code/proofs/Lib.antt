@@ -7,3 +7,4 @@ pub mod Standing
 pub mod Flowing
 pub mod Naming
 pub mod Acting
+pub mod Remembering
