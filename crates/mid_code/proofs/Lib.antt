@@ -8,3 +8,5 @@ pub mod Flowing
 pub mod Naming
 pub mod Acting
 pub mod Remembering
+pub mod Accessing
+pub mod Opening
