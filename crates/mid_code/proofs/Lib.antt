@@ -10,3 +10,4 @@ pub mod Acting
 pub mod Remembering
 pub mod Accessing
 pub mod Opening
+pub mod Fitting
