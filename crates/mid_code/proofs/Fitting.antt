@@ -144,7 +144,24 @@ never_stuck_from program valid (suc more) s fits h =
     not_then program (step program s) (exec program more) (sound_step program s valid fits) (λ next fits' g. never_stuck_from program valid more next fits' g) h
 
 -- every state of a run fits
-abbrev AllFit : MidProgram → Run → Type 0
-AllFit program (Running s events) = Fits program s
-AllFit program (Ended end events) = Unit {0}
-AllFit program NoWay = Unit {0}
+abbrev IfRunning : MidProgram → Run → Type 0
+IfRunning program (Running s events) = Fits program s
+IfRunning program (Ended end events) = Unit {0}
+IfRunning program NoWay = Unit {0}
+
+running_preceded : (program : MidProgram) (before : List Event) (r : Run) → IfRunning program r → IfRunning program (preceded before r)
+running_preceded program before (Running s events) h = h
+running_preceded program before (Ended end events) h = tt
+running_preceded program before NoWay h = tt
+
+running_then : (program : MidProgram) (s : Step) (rest : State → Run) → IsSound program s → ((next : State) → Fits program next → IfRunning program (rest next)) → IfRunning program (then_run s rest)
+running_then program (On s events) rest sound more = running_preceded program events (rest s) (more s sound)
+running_then program (Ends end events) rest sound more = tt
+running_then program Stuck rest sound more = tt
+
+running_fits : (program : MidProgram) → IsValid program → (steps : ℕ) (s : State) → Fits program s → IfRunning program (exec program steps s)
+running_fits program valid zero s fits = fits
+running_fits program valid (suc more) s fits = running_then program (step program s) (exec program more) (sound_step program s valid fits) (running_fits program valid more)
+
+pub fits_after : (program : MidProgram) → IsValid program → (steps : ℕ) (s next : State) (events : List Event) → Fits program s → exec program steps s ≡ Running next events → Fits program next
+fits_after program valid steps s next events fits h = subst (IfRunning program) h (running_fits program valid steps s fits)

@@ -11,3 +11,4 @@ pub mod Remembering
 pub mod Accessing
 pub mod Opening
 pub mod Fitting
+pub mod Starting
