@@ -12,3 +12,4 @@ pub mod Accessing
 pub mod Opening
 pub mod Fitting
 pub mod Starting
+pub mod Nearing
