@@ -13,3 +13,4 @@ pub mod Opening
 pub mod Fitting
 pub mod Starting
 pub mod Nearing
+pub mod Bounding

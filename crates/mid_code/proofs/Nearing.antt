@@ -58,7 +58,7 @@ Stands program m h line mid = slice_get h.top.code.code m.top.place ≡ Some (re
 passing : (program : MidProgram) (m : Machine) (h : IsMachine program m) (line : ℕ) (mid : Mid) → Stands program m h line mid → is_turn (Some (record { line = line; mid = mid })) ≡ false → to_turn program (record m.top { place = m.top.place + 1 }) < to_turn program m.top
 passing program m h line mid at other = at_nearer program m h (m.top.place + 1) (ap is_turn at ∙ other) (inl (omega arith))
 
-top_nearer : (program : MidProgram) (m : Machine) (a : Activation) → to_turn program a < to_turn program m.top → left_to_go program (record m { top = a }) < left_to_go program m
+pub top_nearer : (program : MidProgram) (m : Machine) (a : Activation) → to_turn program a < to_turn program m.top → left_to_go program (record m { top = a }) < left_to_go program m
 top_nearer program m a near = omega (arith, near)
 
 gives_nears : (program : MidProgram) (m : Machine) (target line : ℕ) (r : Result ℕ Trap) → to_turn program (record m.top { place = m.top.place + 1 }) < to_turn program m.top → Nears program m (gives target line m r)
@@ -87,7 +87,7 @@ either_nears program m true target taken not_taken = top_nearer program m (recor
 either_nears program m false target taken not_taken = top_nearer program m (record m.top { place = m.top.place + 1 }) not_taken
 
 -- an activation has at most 65,535 instructions before it
-few_to_turn : (program : MidProgram) (a : Activation) (f : MidFunction) → IsValid program → function_at program a.function ≡ Some f → to_turn program a ≤ 65535
+pub few_to_turn : (program : MidProgram) (a : Activation) (f : MidFunction) → IsValid program → function_at program a.function ≡ Some f → to_turn program a ≤ 65535
 few_to_turn program a f valid found =
     let k = function_kept program a.function f valid found in
     let e : to_turn program a ≡ to_turn_in (Some f) a.place = ap (λ g. to_turn_in g a.place) found in

@@ -1,0 +1,87 @@
+-- A run of a valid program ends, after fewer steps and events than its bound.
+use Rattle.std.proofs.Common.{◌≡◌, ℕ, zero, suc, ◌+◌, ◌-◌, ◌*◌, ◌<◌, ◌≤◌, ◌^◌, List, [], ◌∷◌, ◌++◌, length, Option, Some, None, Result, Ok, Err, refl, sym, ap, ◌∙◌, subst, arith, length-append}
+use Rattle.std.specs.Prelude.{All}
+use Rattle.srmt_base.specs.declared.event.Event.{Event}
+use Rattle.srmt_base.specs.declared.trap.Trap.{Trap}
+use Rattle.srmt_base.specs.declared.trap.SourceEnd.{SourceEnd}
+use Rattle.srmt_base.specs.declared.limits.Limits.{Limits}
+use Rattle.srmt_base.specs.Memory.{Memory, Part, read_of, write_of, begin_of, next_number}
+use Rattle.mid_code.specs.declared.program.MidFunction.{MidFunction}
+use Rattle.mid_code.specs.declared.program.MidProgram.{MidProgram}
+use Rattle.mid_code.specs.declared.access.Access.{Access}
+use Rattle.mid_code.specs.declared.access.Access.TheVariants.{Loads, Stores, VolatileLoads, VolatileStores, Opens, Closes, Puts, Gets, Exits}
+use Rattle.mid_code.specs.Program.{function_at}
+use Rattle.mid_code.specs.Valid.{IsValid}
+use Rattle.mid_code.specs.Machine.{Machine, Does, Goes, Traps, Reaches, Lost, passed, given, given_object, passed_close, does}
+use Rattle.mid_code.specs.Meaning.{State, Step, On, Ends, Stuck, Run, Running, Ended, NoWay, after_read, after_write, after_begin, after_get, own_part, reach, step, step_by, preceded, then_run, exec, started}
+use Rattle.mid_code.specs.Start.{FitLimits, started_machine}
+use Rattle.mid_code.specs.Bounds.{to_turn, left_to_go}
+use Rattle.mid_code.specs.Fits.{IsMachine, Fits}
+use Rattle.mid_code.proofs.Keeping.{keeps}
+use Rattle.mid_code.proofs.Runs.{one_end}
+use Rattle.mid_code.proofs.Naming.{function_kept}
+use Rattle.mid_code.proofs.Fitting.{IsSound, next_found, does-at, sound_step}
+use Rattle.mid_code.proofs.Nearing.{Nears, act_nears, top_nearer, few_to_turn}
+use Rattle.mid_code.proofs.Starting.{machine_started, fits_started}
+
+-- a step brings the run nearer to its end, with at most one event
+abbrev pub StepNears : MidProgram → State → Step → Type 0
+StepNears program s (On next events) = (left_to_go program next.machine < left_to_go program s.machine) × (length events ≤ 1)
+StepNears program s (Ends end events) = length events ≤ 1
+StepNears program s Stuck = Unit {0}
+
+module _ (program : MidProgram) (s : State) where
+  -- the newest activation one place further on
+  IsNear : Type 0
+  IsNear = to_turn program (record s.machine.top { place = s.machine.top.place + 1 }) < to_turn program s.machine.top
+
+  read_nears : (target line : ℕ) (events : List Event) (r : Result ℕ Trap) → IsNear → length events ≤ 1 → StepNears program s (after_read target line events s r)
+  unfolding IsNear
+  read_nears target line events (Ok value) near one = (top_nearer program s.machine (given target value s.machine).top near, one)
+  read_nears target line events (Err trap) near one = omega arith
+
+  write_nears : (line : ℕ) (events : List Event) (r : Result Memory Trap) → IsNear → length events ≤ 1 → StepNears program s (after_write line events s r)
+  unfolding IsNear
+  write_nears line events (Ok memory) near one = (top_nearer program s.machine (passed s.machine).top near, one)
+  write_nears line events (Err trap) near one = omega arith
+
+  begin_nears : (target line number : ℕ) (r : Result Memory Trap) → IsNear → StepNears program s (after_begin target line number s r)
+  unfolding IsNear
+  begin_nears target line number (Ok memory) near = (top_nearer program s.machine (given_object target number s.machine).top near, omega arith)
+  begin_nears target line number (Err trap) near = omega arith
+
+  get_nears : (target : ℕ) (input : List ℕ) → IsNear → StepNears program s (after_get target input s)
+  unfolding IsNear
+  get_nears target [] near = (top_nearer program s.machine (given target 0 s.machine).top near, omega arith)
+  get_nears target (byte ∷ rest) near = (top_nearer program s.machine (given target byte s.machine).top near, omega arith)
+
+  -- one case for each access
+  reach_nears : (access : Access) (line : ℕ) → IsNear → StepNears program s (reach program access line s)
+  unfolding IsNear
+  reach_nears (Loads target pointer) line near = read_nears target line [] (read_of s.memory pointer) near (omega arith)
+  reach_nears (Stores pointer value) line near = write_nears line [] (write_of s.memory pointer value) near (omega arith)
+  reach_nears (VolatileLoads target pointer) line near = read_nears target line _ (read_of s.memory pointer) near (omega arith)
+  reach_nears (VolatileStores pointer value) line near = write_nears line _ (write_of s.memory pointer value) near (omega arith)
+  reach_nears (Opens target cells) line near = begin_nears target line (next_number (own_part program s) s.memory) (begin_of (own_part program s) s.memory cells) near
+  reach_nears (Closes number) line near = (top_nearer program s.machine (passed_close s.machine).top near, omega arith)
+  reach_nears (Puts value) line near = (top_nearer program s.machine (passed s.machine).top near, omega arith)
+  reach_nears (Gets target) line near = get_nears target s.input near
+  reach_nears (Exits value) line near = omega arith
+
+  does_near : (d : Does) → Nears program s.machine d → StepNears program s (step_by program d s)
+  unfolding IsNear
+  does_near (Goes next) near = (near, omega arith)
+  does_near (Traps trap line) near = omega arith
+  does_near (Reaches access line) near = reach_nears access line near
+  does_near Lost near = tt
+
+-- a step of a state that fits
+pub step_nears : (program : MidProgram) (s : State) → IsValid program → IsMachine program s.machine → StepNears program s (step program s)
+step_nears program s valid h =
+    let l = next_found program s.machine h in
+    let k = keeps program s.machine.top.function s.machine.top.place h.top.code l.0 valid h.top.found l.1 in
+    does_near program s (does program s.machine) (rw (does-at program s.machine l.0 l.2) (act_nears program s.machine h l.0.mid l.0.line valid k l.1))
+
+-- a step after which the run goes on leaves fewer
+pub left_to_go-step : (program : MidProgram) (s next : State) (events : List Event) → IsValid program → Fits program s → step program s ≡ On next events → left_to_go program next.machine < left_to_go program s.machine
+left_to_go-step program s next events valid fits e = (subst (StepNears program s) e (step_nears program s valid fits.machine)).0
