@@ -14,3 +14,4 @@ pub mod Fitting
 pub mod Starting
 pub mod Nearing
 pub mod Bounding
+pub mod Smallness

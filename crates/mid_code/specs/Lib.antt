@@ -13,3 +13,4 @@ pub mod Start
 pub mod Bounds
 pub mod Meaning
 pub mod Keeps
+pub mod Laws
