@@ -15,3 +15,4 @@ pub mod Starting
 pub mod Nearing
 pub mod Bounding
 pub mod Smallness
+pub mod Trapping

@@ -13,4 +13,5 @@ pub mod Start
 pub mod Bounds
 pub mod Meaning
 pub mod Keeps
+pub mod Counting
 pub mod Laws
