@@ -16,3 +16,4 @@ pub mod Nearing
 pub mod Bounding
 pub mod Smallness
 pub mod Trapping
+pub mod Counting
