@@ -27,19 +27,19 @@ use Rattle.mid_code.proofs.Standing.{live_same, live_more}
 use Rattle.mid_code.proofs.Trapping.{is_counted, IsOther, arith_other, sum_other, difference_other, comparison_other, read_other, write_other, begin_other}
 
 -- what is left to a part, and its live activations with it
-record SameBudgets (program : MidProgram) (m next : Machine) (part : Part) : Type 0 where
-  turns : (budget_of part next).turns ≡ (budget_of part m).turns
-  depth : live_of program part (activations next) + (budget_of part next).depth ≡ live_of program part (activations m) + (budget_of part m).depth
+pub record SameBudgets (program : MidProgram) (m next : Machine) (part : Part) : Type 0 where
+  pub turns : (budget_of part next).turns ≡ (budget_of part m).turns
+  pub depth : live_of program part (activations next) + (budget_of part next).depth ≡ live_of program part (activations m) + (budget_of part m).depth
 
 -- an instruction that counts nothing
-abbrev Quiet : MidProgram → Machine → Does → Type 0
+abbrev pub Quiet : MidProgram → Machine → Does → Type 0
 Quiet program m (Goes next) = (part : Part) → SameBudgets program m next part
 Quiet program m (Traps trap line) = IsOther trap
 Quiet program m (Reaches access line) = Unit {0}
 Quiet program m Lost = Unit {0}
 
 -- what the machine does is what the instruction counts
-abbrev Counted : MidProgram → Machine → Counting → Does → Type 0
+abbrev pub Counted : MidProgram → Machine → Counting → Does → Type 0
 Counted program m Uncounted d = Quiet program m d
 Counted program m (OneTurn part line) d = d ≡ counts part line m
 Counted program m (OneActivation part line) d = (callee : Activation) × (d ≡ enters part line callee m) × (part_of_function program callee.function ≡ part)
@@ -120,19 +120,19 @@ act_at_counted : (program : MidProgram) (l : Option MidLine) (m : Machine) → C
 act_at_counted program None m = tt
 act_at_counted program (Some l) m = act_counted program m l.mid l.line
 
-does_counted : (program : MidProgram) (m : Machine) → Counted program m (next_counting program m) (does program m)
+pub does_counted : (program : MidProgram) (m : Machine) → Counted program m (next_counting program m) (does program m)
 unfolding does
 does_counted program m = act_at_counted program (line_at program m.top.function m.top.place) m
 
 -- a part's budgets after a step
-record AfterCount (program : MidProgram) (m next : Machine) (c : Counting) (part : Part) : Type 0 where
-  turns : (budget_of part next).turns + turns_of part c ≡ (budget_of part m).turns
-  depth : live_of program part (activations next) + (budget_of part next).depth ≡ live_of program part (activations m) + (budget_of part m).depth
+pub record AfterCount (program : MidProgram) (m next : Machine) (c : Counting) (part : Part) : Type 0 where
+  pub turns : (budget_of part next).turns + turns_of part c ≡ (budget_of part m).turns
+  pub depth : live_of program part (activations next) + (budget_of part next).depth ≡ live_of program part (activations m) + (budget_of part m).depth
 
 quiet_after : (program : MidProgram) (m next : Machine) (part : Part) → SameBudgets program m next part → AfterCount program m next Uncounted part
 quiet_after program m next part h = record { turns = omega (arith, h.turns); depth = h.depth }
 
-at_least_one : (n : ℕ) → (n == 0) ≡ false → 1 ≤ n
+pub at_least_one : (n : ℕ) → (n == 0) ≡ false → 1 ≤ n
 at_least_one zero h = absurd (eqb-false 0 0 h refl)
 at_least_one (suc n) h = omega arith
 
@@ -149,7 +149,7 @@ entry_after program m Binary line callee own some deep Protected = record { turn
 entry_after program m Binary line callee own some deep Binary = record { turns = omega (arith, some); depth = omega (arith, deep, live_more program Binary Binary callee (record m.top { place = m.top.place + 1 } ∷ m.below) own) }
 
 -- what a step that goes on leaves of the budgets
-abbrev IfGoesOn : MidProgram → Machine → Counting → Step → Type 0
+abbrev pub IfGoesOn : MidProgram → Machine → Counting → Step → Type 0
 IfGoesOn program m c (On next events) = (part : Part) → AfterCount program m next.machine c part
 IfGoesOn program m c (Ends end events) = Unit {0}
 IfGoesOn program m c Stuck = Unit {0}
@@ -197,5 +197,5 @@ goes_by program s (OneActivation own line) d h = rw (h.1) (by ((budget_of own s.
   by false true deep some = tt
   by false false deep some = entry_after program s.machine own line h.0 h.2 (at_least_one (budget_of own s.machine).turns some) (at_least_one (budget_of own s.machine).depth deep)
 
-step_goes : (program : MidProgram) (s : State) → IfGoesOn program s.machine (next_counting program s.machine) (step program s)
+pub step_goes : (program : MidProgram) (s : State) → IfGoesOn program s.machine (next_counting program s.machine) (step program s)
 step_goes program s = goes_by program s (next_counting program s.machine) (does program s.machine) (does_counted program s.machine)

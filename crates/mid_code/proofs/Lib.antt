@@ -17,3 +17,4 @@ pub mod Bounding
 pub mod Smallness
 pub mod Trapping
 pub mod Counting
+pub mod Exactness

@@ -118,7 +118,7 @@ main_within program f valid found =
     }
 
 -- `main` is a function of the main file
-main_part : (program : MidProgram) → KeepsProgram program → part_of_function program program.main ≡ Protected
+pub main_part : (program : MidProgram) → KeepsProgram program → part_of_function program program.main ≡ Protected
 main_part program k = ap part_if (le-leb program.main program.main_functions k.main)
 
 -- the machine at the start, with `main` on top

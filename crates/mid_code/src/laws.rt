@@ -3,6 +3,7 @@ ghost use Rattle.srmt_base.specs.declared.event.Event.{Event};
 ghost use Rattle.srmt_base.specs.declared.limits.Limits.{Limits};
 ghost use Rattle.srmt_base.specs.declared.trap.SourceEnd.{SourceEnd};
 ghost use Rattle.mid_code.specs.declared.program.MidProgram.{MidProgram};
+ghost use Rattle.mid_code.specs.Counting.{CountsExactly, turns_so_far};
 ghost use Rattle.mid_code.specs.Laws.{CanRun, HoldsSmall, IsShort};
 ghost use Rattle.mid_code.specs.Meaning.{State, Running, NoWay, Middle, exec, started};
 
@@ -25,4 +26,10 @@ pub fn is_bounded()
 /// A law: in every state of a run of a valid program each register and each cell is below 2^44.
 pub fn values_stay_small()
     ensures { (program : MidProgram) (input : List ℕ) (limits : Limits) → CanRun program input limits → (steps : ℕ) (s : State) (events : List Event) → exec program steps (started program input limits) ≡ Running s events → HoldsSmall s }
+{}
+
+/// A law: a trap by the budget of turns or of live activations comes exactly where one more unit
+/// would pass the limit.
+pub fn budgets_are_exact()
+    ensures { (program : MidProgram) (input : List ℕ) (limits : Limits) → CanRun program input limits → (steps : ℕ) (s : State) (events : List Event) → exec program steps (started program input limits) ≡ Running s events → CountsExactly program limits (λ part. turns_so_far program part steps (started program input limits)) s }
 {}
