@@ -1,26 +1,21 @@
 -- A run of a valid program ends, after fewer steps and events than its bound.
-use Rattle.std.proofs.Common.{◌≡◌, ℕ, zero, suc, ◌+◌, ◌-◌, ◌*◌, ◌<◌, ◌≤◌, ◌^◌, List, [], ◌∷◌, ◌++◌, length, Option, Some, None, Result, Ok, Err, refl, sym, ap, ◌∙◌, subst, arith, length-append}
-use Rattle.std.specs.Prelude.{All}
+use Rattle.std.proofs.Common.{◌≡◌, ℕ, zero, suc, ◌+◌, ◌<◌, ◌≤◌, ◌^◌, List, [], ◌∷◌, ◌++◌, length, Result, Ok, Err, refl, ap, subst, arith, length-append}
 use Rattle.srmt_base.specs.declared.event.Event.{Event}
 use Rattle.srmt_base.specs.declared.trap.Trap.{Trap}
 use Rattle.srmt_base.specs.declared.trap.SourceEnd.{SourceEnd}
 use Rattle.srmt_base.specs.declared.limits.Limits.{Limits}
-use Rattle.srmt_base.specs.Memory.{Memory, Part, read_of, write_of, begin_of, next_number}
-use Rattle.mid_code.specs.declared.program.MidFunction.{MidFunction}
+use Rattle.srmt_base.specs.Memory.{Memory, read_of, write_of, begin_of, next_number}
 use Rattle.mid_code.specs.declared.program.MidProgram.{MidProgram}
 use Rattle.mid_code.specs.declared.access.Access.{Access}
 use Rattle.mid_code.specs.declared.access.Access.TheVariants.{Loads, Stores, VolatileLoads, VolatileStores, Opens, Closes, Puts, Gets, Exits}
-use Rattle.mid_code.specs.Program.{function_at}
 use Rattle.mid_code.specs.Valid.{IsValid}
-use Rattle.mid_code.specs.Machine.{Machine, Does, Goes, Traps, Reaches, Lost, passed, given, given_object, passed_close, does}
+use Rattle.mid_code.specs.Machine.{Does, Goes, Traps, Reaches, Lost, passed, given, given_object, passed_close, does}
 use Rattle.mid_code.specs.Meaning.{State, Step, On, Ends, Stuck, Run, Running, Ended, NoWay, after_read, after_write, after_begin, after_get, own_part, reach, step, step_by, preceded, then_run, exec, started}
 use Rattle.mid_code.specs.Start.{FitLimits, started_machine}
 use Rattle.mid_code.specs.Bounds.{to_turn, left_to_go}
 use Rattle.mid_code.specs.Fits.{IsMachine, Fits}
 use Rattle.mid_code.specs.Laws.{CanRun, IsShort}
 use Rattle.mid_code.proofs.Keeping.{keeps}
-use Rattle.mid_code.proofs.Runs.{one_end}
-use Rattle.mid_code.proofs.Naming.{function_kept}
 use Rattle.mid_code.proofs.Fitting.{IsSound, next_found, does-at, sound_step}
 use Rattle.mid_code.proofs.Nearing.{Nears, act_nears, top_nearer, few_to_turn}
 use Rattle.mid_code.proofs.Starting.{machine_started, fits_started}

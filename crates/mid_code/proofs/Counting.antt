@@ -1,13 +1,10 @@
 -- Budgets are counted exactly.
-use Rattle.std.proofs.Common.{◌≡◌, ◌≢◌, ℕ, zero, suc, ◌+◌, ◌-◌, ◌<◌, ◌≤◌, ◌⊎◌, List, [], ◌∷◌, ◌++◌, Option, Some, None, Result, Ok, Err, Bool, true, false, inl, inr, refl, sym, ap, ◌∙◌, subst, arith}
+use Rattle.std.proofs.Common.{◌≡◌, ℕ, zero, suc, ◌+◌, ◌-◌, ◌≤◌, List, [], ◌∷◌, Option, Some, None, Result, Ok, Err, Bool, true, false, refl, sym, ap, subst, arith}
 use Rattle.std.specs.Prelude.{IfErr, ◌==◌, not, if◌then◌else◌, slice_set}
-use Rattle.std.proofs.lemmas.Bool.{eqb-true, eqb-false, eq-eqb, ne_eqb}
+use Rattle.std.proofs.lemmas.Bool.{eqb-false, ne_eqb}
 use Rattle.srmt_base.specs.declared.event.Event.{Event}
-use Rattle.srmt_base.specs.declared.limits.Limits.{Limits}
 use Rattle.srmt_base.specs.declared.trap.Trap.{Trap}
 use Rattle.srmt_base.specs.declared.trap.Trap.TheVariants.{NullPointer, NotAFunction, Turns, Depth}
-use Rattle.srmt_base.specs.declared.trap.SourceEnd.{SourceEnd}
-use Rattle.srmt_base.specs.declared.trap.SourceEnd.TheVariants.{Trap as TrapEnd}
 use Rattle.srmt_base.specs.Arith.{arith_of}
 use Rattle.srmt_base.specs.Pointer.{pointer_sum_of, pointer_difference_of, pointer_comparison_of}
 use Rattle.srmt_base.specs.Memory.{Memory, Part, Protected, Binary, read_of, write_of, begin_of, next_number}
@@ -19,12 +16,11 @@ use Rattle.mid_code.specs.declared.mid.Mid.TheVariants.{Const, Move, Arith, Conv
 use Rattle.mid_code.specs.declared.access.Access.{Access}
 use Rattle.mid_code.specs.declared.access.Access.TheVariants.{Loads, Stores, VolatileLoads, VolatileStores, Opens, Closes, Puts, Gets, Exits}
 use Rattle.mid_code.specs.Program.{function_at, line_at}
-use Rattle.mid_code.specs.Machine.{Opened, Activation, Machine, Does, Goes, Traps, Reaches, Lost, register, arguments, activations, one_if, live_of, moved_to, passed, given, given_object, passed_close, gives, moved_if, part_of_function, budget_of, with_budget, spent, counts, activation_of, entered, enters, calls, is_of_type, is_callee, calls_value, leaves, closes, act, act_at, does}
-use Rattle.mid_code.specs.Meaning.{State, Step, On, Ends, Stuck, Run, Running, Ended, NoWay, after_read, after_write, after_begin, after_get, own_part, reach, step, step_by, preceded, then_run, exec, started}
-use Rattle.mid_code.specs.Start.{FitLimits}
-use Rattle.mid_code.specs.Counting.{Counting, Uncounted, OneTurn, OneActivation, entry_of, counting_of, counting_at, next_counting, turns_of, after_step, turns_in, turns_so_far, CountsExactly}
+use Rattle.mid_code.specs.Machine.{Opened, Activation, Machine, Does, Goes, Traps, Reaches, Lost, register, arguments, activations, live_of, passed, given, given_object, passed_close, gives, moved_if, part_of_function, budget_of, with_budget, counts, activation_of, entered, enters, calls, is_callee, calls_value, leaves, closes, act, act_at, does}
+use Rattle.mid_code.specs.Meaning.{State, Step, On, Ends, Stuck, after_read, after_write, after_begin, after_get, own_part, reach, step, step_by}
+use Rattle.mid_code.specs.Counting.{Counting, Uncounted, OneTurn, OneActivation, entry_of, counting_of, counting_at, next_counting, turns_of}
 use Rattle.mid_code.proofs.Standing.{live_same, live_more}
-use Rattle.mid_code.proofs.Trapping.{is_counted, IsOther, arith_other, sum_other, difference_other, comparison_other, read_other, write_other, begin_other}
+use Rattle.mid_code.proofs.Trapping.{IsOther, arith_other, sum_other, difference_other, comparison_other}
 
 -- what is left to a part, and its live activations with it
 pub record SameBudgets (program : MidProgram) (m next : Machine) (part : Part) : Type 0 where
@@ -159,18 +155,23 @@ reach_goes : (program : MidProgram) (s : State) (access : Access) (line : ℕ) �
 reach_goes program s access line = by access where
   on : (a : Activation) → s.machine.top.function ≡ a.function → (part : Part) → AfterCount program s.machine (record s.machine { top = a }) Uncounted part
   on a e part = quiet_after program s.machine (record s.machine { top = a }) part (same_top program s.machine a e part)
+
   read : (target : ℕ) (events : List Event) (r : Result ℕ Trap) → IfGoesOn program s.machine Uncounted (after_read target line events s r)
   read target events (Ok value) = on (given target value s.machine).top refl
   read target events (Err trap) = tt
+
   write : (events : List Event) (r : Result Memory Trap) → IfGoesOn program s.machine Uncounted (after_write line events s r)
   write events (Ok memory) = on (passed s.machine).top refl
   write events (Err trap) = tt
+
   begin : (target number : ℕ) (r : Result Memory Trap) → IfGoesOn program s.machine Uncounted (after_begin target line number s r)
   begin target number (Ok memory) = on (given_object target number s.machine).top refl
   begin target number (Err trap) = tt
+
   get : (target : ℕ) (input : List ℕ) → IfGoesOn program s.machine Uncounted (after_get target input s)
   get target [] = on (given target 4294967295 s.machine).top refl
   get target (byte ∷ rest) = on (given target byte s.machine).top refl
+
   by : (access : Access) → IfGoesOn program s.machine Uncounted (reach program access line s)
   by (Loads target pointer) = read target [] (read_of s.memory pointer)
   by (Stores pointer value) = write [] (write_of s.memory pointer value)

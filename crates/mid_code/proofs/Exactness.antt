@@ -1,12 +1,11 @@
 -- A budget trap comes exactly where one more unit would pass the limit.
-use Rattle.std.proofs.Common.{◌≡◌, ◌≢◌, ℕ, zero, suc, ◌+◌, ◌-◌, ◌<◌, ◌≤◌, ◌⊎◌, List, [], ◌∷◌, ◌++◌, Option, Some, None, Result, Ok, Err, Bool, true, false, inl, inr, refl, sym, ap, ◌∙◌, subst, arith}
-use Rattle.std.specs.Prelude.{IfErr, ◌==◌, ◌↔◌, not, if◌then◌else◌}
-use Rattle.std.proofs.lemmas.Bool.{eqb-true, eq-eqb, ne_eqb, le-leb, true≢false}
+use Rattle.std.proofs.Common.{◌≡◌, ℕ, zero, suc, ◌+◌, ◌-◌, ◌<◌, ◌⊎◌, List, [], ◌∷◌, Option, Some, None, Result, Ok, Err, Bool, true, false, inl, inr, refl, sym, ap, ◌∙◌, subst, arith}
+use Rattle.std.specs.Prelude.{IfErr, ◌==◌, if◌then◌else◌}
+use Rattle.std.proofs.lemmas.Bool.{eqb-true, eq-eqb, ne_eqb, true≢false}
 use Rattle.srmt_base.specs.declared.event.Event.{Event}
 use Rattle.srmt_base.specs.declared.limits.Limits.{Limits}
 use Rattle.srmt_base.specs.declared.trap.Trap.{Trap}
 use Rattle.srmt_base.specs.declared.trap.Trap.TheVariants.{Turns, Depth}
-use Rattle.srmt_base.specs.declared.trap.SourceEnd.{SourceEnd}
 use Rattle.srmt_base.specs.declared.trap.SourceEnd.TheVariants.{Exit as ExitEnd, Trap as TrapEnd}
 use Rattle.srmt_base.specs.Memory.{Memory, Part, Protected, Binary, read_of, write_of, begin_of, next_number}
 use Rattle.mid_code.specs.declared.program.MidFunction.{MidFunction}
@@ -14,10 +13,9 @@ use Rattle.mid_code.specs.declared.program.MidProgram.{MidProgram}
 use Rattle.mid_code.specs.declared.access.Access.{Access}
 use Rattle.mid_code.specs.declared.access.Access.TheVariants.{Loads, Stores, VolatileLoads, VolatileStores, Opens, Closes, Puts, Gets, Exits}
 use Rattle.mid_code.specs.Program.{function_at}
-use Rattle.mid_code.specs.Machine.{Activation, Machine, Does, Goes, Traps, Reaches, Lost, activations, one_if, live_of, passed, part_of_function, budget_of, with_budget, counts, entered, enters, does}
+use Rattle.mid_code.specs.Machine.{Does, Goes, Traps, Reaches, Lost, activations, one_if, live_of, passed, part_of_function, budget_of, with_budget, entered, does}
 use Rattle.mid_code.specs.Meaning.{State, Step, On, Ends, Stuck, Run, Running, Ended, NoWay, after_read, after_write, after_begin, after_get, own_part, reach, step, step_by, preceded, then_run, exec, started}
-use Rattle.mid_code.specs.Start.{FitLimits, main_activation, started_machine}
-use Rattle.mid_code.specs.Valid.{IsValid}
+use Rattle.mid_code.specs.Start.{main_activation, started_machine}
 use Rattle.mid_code.specs.Counting.{Counting, Uncounted, OneTurn, OneActivation, next_counting, turns_of, after_step, turns_in, turns_so_far, CountsExactly}
 use Rattle.mid_code.specs.Laws.{CanRun}
 use Rattle.mid_code.proofs.Naming.{whole}
@@ -74,15 +72,19 @@ reach_other program s access line = by access where
   read : (target : ℕ) (events : List Event) (r : Result ℕ Trap) → IfErr r IsOther → EndsOther (after_read target line events s r)
   read target events (Ok value) h = tt
   read target events (Err trap) h = h
+
   write : (events : List Event) (r : Result Memory Trap) → IfErr r IsOther → EndsOther (after_write line events s r)
   write events (Ok memory) h = tt
   write events (Err trap) h = h
+
   begin : (target number : ℕ) (r : Result Memory Trap) → IfErr r IsOther → EndsOther (after_begin target line number s r)
   begin target number (Ok memory) h = tt
   begin target number (Err trap) h = h
+
   get : (target : ℕ) (input : List ℕ) → EndsOther (after_get target input s)
   get target [] = tt
   get target (byte ∷ rest) = tt
+
   by : (access : Access) → EndsOther (reach program access line s)
   by (Loads target pointer) = read target [] (read_of s.memory pointer) (read_other s.memory pointer)
   by (Stores pointer value) = write [] (write_of s.memory pointer value) (write_other s.memory pointer value)
@@ -182,6 +184,7 @@ balanced_started program input limits can =
     left : (part : Part) → one_if part Protected + (budget_of part (started_machine program limits)).turns ≡ limits.turns
     left Protected = omega (arith, can.fit.some_turns)
     left Binary = omega arith
+
     deep : part_of_function program (main_activation program (function_at program program.main)).function ≡ Protected → (part : Part) → live_of program part (activations (started_machine program limits)) + (budget_of part (started_machine program limits)).depth ≡ limits.depth
     deep own Protected = omega (arith, can.fit.some_depth, ap (one_if Protected) own)
     deep own Binary = omega (arith, ap (one_if Binary) own)

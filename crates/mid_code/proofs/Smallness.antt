@@ -1,5 +1,5 @@
 -- Registers and cells of a state that fits are small.
-use Rattle.std.proofs.Common.{ℕ, List, [], ◌∷◌}
+use Rattle.std.proofs.Common.{List, [], ◌∷◌}
 use Rattle.std.specs.Prelude.{All}
 use Rattle.std.proofs.lemmas.List.Elements.{All-cons, All-nil}
 use Rattle.mid_code.specs.declared.program.MidProgram.{MidProgram}

@@ -1,14 +1,9 @@
 -- A machine stands within its program after each change that an instruction makes to it.
-use Rattle.std.proofs.Common.{◌≡◌, ℕ, zero, suc, ◌+◌, ◌-◌, ◌<◌, ◌≤◌, ◌^◌, List, [], ◌∷◌, length, Option, Some, None, refl, sym, ap, ◌∙◌, subst, arith}
-use Rattle.std.specs.Prelude.{All, slice_set}
-use Rattle.std.proofs.lemmas.List.{length-set}
-use Rattle.std.proofs.lemmas.List.Elements.{All-set}
+use Rattle.std.proofs.Common.{◌≡◌, ◌+◌, ◌-◌, ◌<◌, ◌≤◌, List, [], ◌∷◌, length, sym, ap, ◌∙◌, subst, arith}
 use Rattle.srmt_base.specs.Memory.{Part, Protected, Binary}
 use Rattle.mid_code.specs.declared.program.MidProgram.{MidProgram}
-use Rattle.mid_code.specs.declared.program.MidFunction.{MidFunction}
-use Rattle.mid_code.specs.Program.{function_at}
-use Rattle.mid_code.specs.Machine.{Activation, Budget, Machine, activations, live_of, one_if, budget_of, with_budget, spent, part_of_function, entered, given}
-use Rattle.mid_code.specs.Fits.{IsValue, IsWithin, AreBelow, IsLeft, IsMachine}
+use Rattle.mid_code.specs.Machine.{Activation, Machine, live_of, one_if, budget_of, with_budget, spent, part_of_function}
+use Rattle.mid_code.specs.Fits.{IsWithin, AreBelow, IsMachine}
 
 -- the activations below one, where it changes neither its function nor the register for its result
 pub below_same : (program : MidProgram) (a b : Activation) (rest : List Activation) → a.function ≡ b.function → a.into ≡ b.into → AreBelow program a rest → AreBelow program b rest

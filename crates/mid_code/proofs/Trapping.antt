@@ -1,5 +1,5 @@
 -- Arithmetic and accesses never trap by the budgets of turns and of live activations.
-use Rattle.std.proofs.Common.{◌≡◌, ℕ, ◌+◌, ◌^◌, ℤ, pos, ◌+ℤ◌, ◌-ℤ◌, ◌*ℤ◌, List, [], ◌∷◌, length, Option, Some, None, Result, Ok, Err, Bool, true, false, refl, arith}
+use Rattle.std.proofs.Common.{◌≡◌, ℕ, ◌+◌, ◌^◌, ℤ, pos, ◌+ℤ◌, ◌-ℤ◌, ◌*ℤ◌, length, Option, Some, None, Result, Ok, Err, Bool, true, false, refl}
 use Rattle.std.specs.Prelude.{IfErr, not, ◌&&◌, ◌||◌, ◌==◌, nat_le, nat_lt, int_div, if◌then◌else◌}
 use Rattle.std.specs.Int.{is_negative}
 use Rattle.std.specs.Ordering.{int_eq}
@@ -9,9 +9,9 @@ use Rattle.srmt_base.specs.declared.trap.Trap.{Trap}
 use Rattle.srmt_base.specs.declared.trap.Trap.TheVariants.{Turns, Depth}
 use Rattle.srmt_base.specs.declared.ty.Ty.{Ty}
 use Rattle.srmt_base.specs.Types.{is_signed, can_hold, value_at, width_of}
-use Rattle.srmt_base.specs.Arith.{arith_of, reduced, divided, remaining, shifted_left, shifted_right, bits_at}
-use Rattle.srmt_base.specs.Pointer.{moved, amount_of, pointer_sum_of, pointer_difference_of, pointer_comparison_of, is_equality, is_offset}
-use Rattle.srmt_base.specs.Objects.{Object, Objects, object_part, offset_part, live_at, access_in, access_of, if_passed, load_of, put_of, add_of, live_cells, written}
+use Rattle.srmt_base.specs.Arith.{arith_of, reduced, shifted_left, bits_at}
+use Rattle.srmt_base.specs.Pointer.{amount_of, pointer_sum_of, pointer_difference_of, pointer_comparison_of, is_equality, is_offset}
+use Rattle.srmt_base.specs.Objects.{Object, Objects, object_part, offset_part, live_at, access_in, access_of, if_passed, put_of, add_of, live_cells, written}
 use Rattle.srmt_base.specs.Memory.{Memory, Part, objects_of, last_number, part_of, changed, read_of, write_of, next_number, begin_of}
 
 -- whether a trap is that of turns or of activations
