@@ -1,3 +1,4 @@
+pub mod OperandLemmas
 pub mod Keeping
 pub mod Runs
 pub mod Fitting

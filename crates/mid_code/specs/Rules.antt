@@ -20,7 +20,8 @@ use Rattle.mid_code.specs.declared.mid.Mid.{Mid}
 use Rattle.mid_code.specs.declared.mid.Mid.TheVariants.{Const, Move, Arith, PtrAdd, PtrDiff, PtrCmp, GlobAddr, FunAddr, Open, Close, Jump, JumpZ, JumpN, Turn, Call, CallPtr, Return, Exit}
 use Rattle.mid_code.specs.Registers.{registers_list}
 use Rattle.mid_code.specs.Program.{function_at}
-use Rattle.mid_code.specs.Operands.{Operand, operands}
+use Rattle.mid_code.specs.declared.operands.Operand.{Operand}
+use Rattle.mid_code.specs.Operands.{operands}
 use Rattle.mid_code.specs.Flow.{breaks_order}
 
 -- two kinds are the same

@@ -10,6 +10,7 @@ mod access;
 mod class;
 mod laws;
 mod mid;
+mod operands;
 mod pair;
 mod program;
 mod refusal;
