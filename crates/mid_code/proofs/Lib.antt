@@ -1,3 +1,4 @@
+pub mod FlowLemmas
 pub mod OperandLemmas
 pub mod Keeping
 pub mod Runs

@@ -8,6 +8,7 @@
 
 mod access;
 mod class;
+mod flow;
 mod laws;
 mod mid;
 mod operands;
