@@ -1,3 +1,5 @@
+pub mod Passing
+pub mod RowLemmas
 pub mod FlowLemmas
 pub mod OperandLemmas
 pub mod Keeping
