@@ -2,6 +2,8 @@
 use Rattle.std.proofs.Common.{inl, inr, ◌≡◌, ◌≢◌, ℕ, zero, suc, ◌+◌, ◌<◌, ◌≤◌, List, [], ◌∷◌, length, Option, Some, None, Bool, true, false, refl, sym, ap, ◌∙◌, subst, arith}
 use Rattle.std.specs.Prelude.{nat_lt, not, ◌==◌, ◌&&◌, ◌||◌, if◌then◌else◌, slice_get, slice_index}
 use Rattle.std.specs.List.{list_any}
+use Rattle.std.specs.Bool.{OnFalse}
+use Rattle.std.proofs.lemmas.Option.{slice_get_cases}
 use Rattle.std.proofs.lemmas.Bool.{cases_eq, cases_lt, cases_Bool, eqb-true, ltb-true, eq-eqb, ne_eqb}
 use Rattle.std.proofs.lemmas.Bool.Decides.{nat_tests}
 use Rattle.mid_code.specs.declared.mid.Mid.{Mid}
@@ -181,3 +183,71 @@ enters_number row code p left l found next leave here at =
     any_same (λ t. has_other_number (length code) left (row_after (length code) p left (goes_to p l.mid) row) t)
     (λ t. nat_lt t (length code) && has_others (found_at code t) (leaves p l.mid found)) (goes_to p l.mid)
     (λ t among. other_at row code p left l found t (nat_lt t (length code)) refl next leave here at among)
+
+-- what the number of a place tells
+none_number : (state : Option (List ℕ)) → number_of state ≡ 0 → state ≡ None
+none_number None h = refl
+none_number (Some os) h = absurd (some_number os h)
+
+pub unreached : (row : List ℕ) (code : List MidLine) (p : ℕ) → Holds row code p → p < length code → slice_index row p ≡ 0 → found_at code p ≡ None
+unreached row code p holds within empty = none_number (found_at code p) (sym (holds.ahead p (omega arith) within) ∙ empty)
+
+found_by : (state : Option (List ℕ)) → number_of state ≢ 0 → (found : List ℕ) × (state ≡ Some found)
+found_by None some = absurd (some refl)
+found_by (Some os) some = (os, refl)
+
+pub reached : (row : List ℕ) (code : List MidLine) (p : ℕ) → Holds row code p → p < length code → slice_index row p ≢ 0 → (found : List ℕ) × (found_at code p ≡ Some found)
+reached row code p holds within some = found_by (found_at code p) (λ e. some (holds.ahead p (omega arith) within ∙ e))
+
+pub known_here : (row : List ℕ) (code : List MidLine) (p : ℕ) (found : List ℕ) → Holds row code p → p < length code → found_at code p ≡ Some found → slice_index row p ≡ number_of (Some found)
+known_here row code p found holds within here = holds.ahead p (omega arith) within ∙ ap number_of here
+
+-- what the step answers
+pub answer_quiet : (code : List MidLine) (p : ℕ) (mid : Mid) → found_at code p ≡ None → false ≡ breaks_order code p mid
+unfolding breaks_order
+answer_quiet code p mid none = sym (ap (breaks_order_by code p mid) none)
+
+pub answer_closes : (row : List ℕ) (code : List MidLine) (p : ℕ) (mid : Mid) → Holds row code p → p < length code → slice_index row p ≢ 0 → number_closes_wrongly mid (slice_index row p) ≡ true → true ≡ breaks_order code p mid
+unfolding breaks_order
+answer_closes row code p mid holds within some wrong =
+    let there = reached row code p holds within some in
+    let closes : closes_wrongly mid there.0 ≡ true = sym (closes_number mid there.0) ∙ ap (number_closes_wrongly mid) (sym (known_here row code p there.0 holds within there.1)) ∙ wrong in
+    sym (ap (breaks_order_by code p mid) there.1 ∙ ap (λ b. b || enters_wrongly code p mid there.0) closes)
+
+-- and where the row has come then
+module _ (row : List ℕ) (code : List MidLine) (p left : ℕ) (l : MidLine) where
+  abbrev passed_row : List ℕ
+  passed_row = row_after (length code) p left (goes_to p l.mid) row
+
+  leave_right : Holds row code p → p < length code → (found : List ℕ) → found_at code p ≡ Some found → number_closes_wrongly l.mid (slice_index row p) ≡ false → left ≡ left_number row p l.mid (slice_index row p) → left ≡ number_of (Some (leaves p l.mid found))
+  leave_right holds within found here right is_left =
+      let known = known_here row code p found holds within here in
+      let closes : closes_wrongly l.mid found ≡ false = sym (closes_number l.mid found) ∙ ap (number_closes_wrongly l.mid) (sym known) ∙ right in
+      is_left ∙ ap (left_number row p l.mid) known ∙ left_numbers row code p l.mid found holds within here closes
+
+  pub next_passed : Holds row code p → p < length code → length code ≤ length row → slice_get code p ≡ Some l → slice_index row p ≢ 0 → number_closes_wrongly l.mid (slice_index row p) ≡ false → left ≡ left_number row p l.mid (slice_index row p) → Holds passed_row code (suc p)
+  next_passed holds within room at some right is_left =
+      let there = reached row code p holds within some in
+      next_entered row code p left l there.0 holds (leave_right holds within there.0 there.1 right is_left) room there.1 at
+
+  pub answer_enters : Holds row code p → p < length code → length code ≤ length row → slice_get code p ≡ Some l → slice_index row p ≢ 0 → number_closes_wrongly l.mid (slice_index row p) ≡ false → left ≡ left_number row p l.mid (slice_index row p) →
+      list_any (λ t. has_other_number (length code) left passed_row t) (goes_to p l.mid) ≡ breaks_order code p l.mid
+  unfolding breaks_order
+  answer_enters holds within room at some right is_left =
+      let there = reached row code p holds within some in
+      let known = known_here row code p there.0 holds within there.1 in
+      let closes : closes_wrongly l.mid there.0 ≡ false = sym (closes_number l.mid there.0) ∙ ap (number_closes_wrongly l.mid) (sym known) ∙ right in
+      enters_number row code p left l there.0 (next_passed holds within room at some right is_left) (leave_right holds within there.0 there.1 right is_left) there.1 at
+      ∙ sym (ap (breaks_order_by code p l.mid) there.1 ∙ ap (λ b. b || enters_wrongly code p l.mid there.0) closes)
+
+pub on_false : {P : Type 0} (b : Bool) → P → OnFalse b P
+on_false true p = tt
+on_false false p = p
+
+-- there is an instruction at each place within
+pub line_there : (code : List MidLine) (place : ℕ) → place < length code → (l : MidLine) × (slice_get code place ≡ Some l)
+line_there code place within =
+    elim (slice_get_cases code place).1 as (λ _. (l : _) × (slice_get code place ≡ Some l)) [
+      | inl found ↦ (found.0, found.2)
+      | inr past ↦ absurd (omega (arith, past.0))
+    ]
