@@ -1,3 +1,4 @@
+pub mod KindLemmas
 pub mod Passing
 pub mod RowLemmas
 pub mod FlowLemmas

@@ -118,8 +118,8 @@ unfolding entered
 next_quiet row code p holds none = record {
   behind = behind_next row code p holds;
   ahead = λ t past within.
-    holds.ahead t (omega arith) within
-    ∙ ap number_of (sym (ap (λ state. or_else (entered code p t) (entry t p state (slice_get code p))) none ∙ quiet (entered code p t) (slice_get code p) p t));
+      holds.ahead t (omega arith) within
+      ∙ ap number_of (sym (ap (λ state. or_else (entered code p t) (entry t p state (slice_get code p))) none ∙ quiet (entered code p t) (slice_get code p) p t));
 }
 
 -- the row after the entries of an instruction
@@ -143,8 +143,8 @@ module _ (row : List ℕ) (code : List MidLine) (p left : ℕ) (l : MidLine) (fo
   next_entered holds leave room here at = record {
     behind = λ t before within. kept_behind (length code) p left (goes_to p l.mid) row t (omega arith) ∙ behind_next row code p holds t before within;
     ahead = λ t past within.
-      ahead_by t (entered code p t) leave room (omega arith) within (holds.ahead t (omega arith) within)
-      ∙ ap number_of (sym (ap (λ state. or_else (entered code p t) (entry t p state (slice_get code p))) here ∙ ap (λ line. or_else (entered code p t) (entry t p (Some found) line)) at));
+        ahead_by t (entered code p t) leave room (omega arith) within (holds.ahead t (omega arith) within)
+        ∙ ap number_of (sym (ap (λ state. or_else (entered code p t) (entry t p state (slice_get code p))) here ∙ ap (λ line. or_else (entered code p t) (entry t p (Some found) line)) at));
   }
 
   -- a place that the instruction enters has its own number by now
@@ -173,9 +173,9 @@ any_same f g (x ∷ xs) h =
     let rest : list_any f xs ≡ list_any g xs = any_same f g xs (λ t among. h t (or_last (x == t) (list_any (λ n. n == t) xs) among)) in
     ap (λ b. b || list_any f xs) first ∙ ap (λ b. g x || b) rest
   where
-  or_last : (a b : Bool) → b ≡ true → (a || b) ≡ true
-  or_last true b e = refl
-  or_last false b e = e
+    or_last : (a b : Bool) → b ≡ true → (a || b) ≡ true
+    or_last true b e = refl
+    or_last false b e = e
 
 pub enters_number : (row : List ℕ) (code : List MidLine) (p left : ℕ) (l : MidLine) (found : List ℕ) → Holds (row_after (length code) p left (goes_to p l.mid) row) code (suc p) → left ≡ number_of (Some (leaves p l.mid found)) → found_at code p ≡ Some found → slice_get code p ≡ Some l →
     list_any (λ t. has_other_number (length code) left (row_after (length code) p left (goes_to p l.mid) row) t) (goes_to p l.mid) ≡ enters_wrongly code p l.mid found

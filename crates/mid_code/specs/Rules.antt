@@ -130,12 +130,13 @@ mixes_kinds kinds (Move target source) = is_of_other_kind (slice_get kinds targe
 mixes_kinds kinds _ = false
 
 -- Rule 5
+abbrev pub counts_turn : Mid → Bool
+counts_turn Turn = true
+counts_turn _ = false
+
 abbrev pub is_turn : Option MidLine → Bool
 is_turn None = false
-is_turn (Some l) = is_turn_mid l.mid where
-  is_turn_mid : Mid → Bool
-  is_turn_mid Turn = true
-  is_turn_mid _ = false
+is_turn (Some l) = counts_turn l.mid
 
 abbrev pub is_bad_target : List MidLine → ℕ → ℕ → Bool
 is_bad_target code place target = nat_le (length code) target || (nat_le target place && not (is_turn (slice_get code target)))
