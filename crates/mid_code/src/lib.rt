@@ -18,6 +18,7 @@ mod program;
 mod refusal;
 mod registers;
 mod rules;
+mod valid;
 mod version;
 
 pub use access::Access;
