@@ -1,3 +1,9 @@
+pub mod RuleLemmas
+pub mod KindLemmas
+pub mod Passing
+pub mod RowLemmas
+pub mod FlowLemmas
+pub mod OperandLemmas
 pub mod Keeping
 pub mod Runs
 pub mod Fetching

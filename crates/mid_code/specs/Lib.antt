@@ -2,6 +2,7 @@ pub mod Program
 pub mod Registers
 pub mod Operands
 pub mod Flow
+pub mod Row
 pub mod Rules
 pub mod Valid
 pub mod Machine

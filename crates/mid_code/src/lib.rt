@@ -8,12 +8,17 @@
 
 mod access;
 mod class;
+mod flow;
 mod laws;
+mod limits;
 mod mid;
+mod operands;
 mod pair;
 mod program;
 mod refusal;
 mod registers;
+mod rules;
+mod valid;
 mod version;
 
 pub use access::Access;
