@@ -24,3 +24,4 @@ pub mod Smallness
 pub mod Trapping
 pub mod Counting
 pub mod Exactness
+pub mod Worked
