@@ -25,3 +25,4 @@ pub mod Trapping
 pub mod Counting
 pub mod Exactness
 pub mod Worked
+pub mod Rooms
