@@ -1,177 +1,165 @@
--- A machine that fits a valid program has a next instruction, and fits after it.
-use Rattle.std.proofs.Common.{◌≡◌, ℕ, zero, suc, ◌+◌, ◌-◌, ◌<◌, ◌^◌, List, length, Option, Some, None, refl, sym, ap, ◌∙◌, subst, arith}
-use Rattle.std.proofs.Common.{inl, inr}
-use Rattle.std.specs.Prelude.{All, slice_get, option_and_then}
-use Rattle.std.proofs.lemmas.List.{length-set, length-replicate}
-use Rattle.std.proofs.lemmas.List.Elements.{All-set, All-replicate}
-use Rattle.std.proofs.lemmas.Bool.{cases_lt}
-use Rattle.std.proofs.lemmas.Option.{slice_get_cases, slice_get_within, get_or_from_slice_get}
+-- Every state of a run of a valid program fits it, and has a next step or ends.
+use Rattle.std.proofs.Common.{◌≡◌, ℕ, zero, suc, ◌+◌, ◌<◌, ◌≤◌, List, [], ◌∷◌, length, Some, Result, Ok, Err, refl, ap, ◌∙◌, subst, arith}
+use Rattle.std.specs.Prelude.{All, IfOk, slice_get, drop, option_and_then}
+use Rattle.std.proofs.lemmas.List.Elements.{All-head, All-tail}
 use Rattle.srmt_base.specs.declared.event.Event.{Event}
-use Rattle.srmt_base.specs.declared.ty.Ty.{Ty}
-use Rattle.srmt_base.specs.Convert.{convert_of}
-use Rattle.srmt_base.proofs.Ranges.{convert_of-lt}
-use Rattle.mid_code.specs.declared.program.RegisterKind.{RegisterKind}
-use Rattle.mid_code.specs.declared.program.RegisterKind.TheVariants.{Number}
-use Rattle.mid_code.specs.declared.program.MidProgram.{MidProgram}
-use Rattle.mid_code.specs.declared.program.MidFunction.{MidFunction}
+use Rattle.srmt_base.specs.declared.trap.Trap.{Trap}
+use Rattle.srmt_base.specs.Objects.{pointer_to}
+use Rattle.srmt_base.specs.Memory.{Memory, Part, read_of, write_of, begin_of, next_number}
 use Rattle.mid_code.specs.declared.program.MidLine.{MidLine}
-use Rattle.mid_code.specs.declared.mid.Mid.{Mid}
-use Rattle.mid_code.specs.declared.mid.Mid.TheVariants.{Const, Conv, Put, Exit}
-use Rattle.mid_code.specs.Program.{function_at, line_at}
-use Rattle.mid_code.specs.Valid.{AreFit, IsFinal, IsValidFunction, IsValid}
-use Rattle.mid_code.specs.Machine.{Machine, does, act, act_at, register, given, passed}
-use Rattle.mid_code.specs.Meaning.{Step, On, Ends, Stuck, Run, Running, Ended, NoWay, step, step_by, preceded, then_run, exec, started, register_count}
-use Rattle.mid_code.specs.Fits.{Fits, AreWithin}
+use Rattle.mid_code.specs.declared.program.MidProgram.{MidProgram}
+use Rattle.mid_code.specs.declared.access.Access.{Access}
+use Rattle.mid_code.specs.declared.access.Access.TheVariants.{Loads, Stores, VolatileLoads, VolatileStores, Opens, Closes, Puts, Gets, Exits}
+use Rattle.mid_code.specs.Program.{line_at}
+use Rattle.mid_code.specs.Valid.{IsValid}
+use Rattle.mid_code.specs.Machine.{Machine, Does, Goes, Traps, Reaches, Lost, activations, passed, given, given_object, passed_close, does, act, act_at}
+use Rattle.mid_code.specs.Meaning.{State, Step, On, Ends, Stuck, Run, Running, Ended, NoWay, after_read, after_write, after_begin, after_get, own_part, reach, step, step_by, preceded, then_run, exec}
+use Rattle.mid_code.specs.Fits.{IsValue, IsMachine, Fits, open_count}
+use Rattle.mid_code.proofs.Keeping.{keeps}
+use Rattle.mid_code.proofs.Values.{one_within}
+use Rattle.mid_code.proofs.Remembering.{read_value}
+use Rattle.mid_code.proofs.Accessing.{AfterWrite, AfterBegin, wrote, began, finished}
+use Rattle.mid_code.proofs.Acting.{AccessFits, DoesFit, act_fits}
+use Rattle.mid_code.proofs.Opening.{OpensKept, act_opens}
 
--- an element found satisfies what all do
-pub found_one : {X : Type 0} (P : X → Type 0) (xs : List X) (k : ℕ) (x : X) → All P xs → slice_get xs k ≡ Some x → P x
-found_one P xs k x all at = subst P (get_or_from_slice_get xs k x x at) (all k x (slice_get_within xs k x at))
-
--- there is an element at each place within
-pub one_within : {X : Type 0} (xs : List X) (k : ℕ) → k < length xs → (x : X) × (slice_get xs k ≡ Some x)
-one_within xs k within =
-    elim (slice_get_cases xs k).1 as (λ _. (x : _) × (slice_get xs k ≡ Some x)) [
-      | inl found ↦ (found.0, found.2)
-      | inr past ↦ absurd (omega (arith, past.0))
-    ]
-
-small_converted : (from to : Ty) (n : ℕ) → convert_of from to n < 2 ^ 44
-small_converted from to n = omega (arith, convert_of-lt from to n)
-
--- the function of a number is one of the program's
-pub valid_function : (program : MidProgram) (number : ℕ) (f : MidFunction) → IsValid program → function_at program number ≡ Some f → IsValidFunction program.types f
-valid_function program zero f valid found = absurd (cc)
-valid_function program (suc n) f valid found = found_one (IsValidFunction program.types) program.functions n f valid.functions found
-
--- a step leads to a machine that fits, or ends the run
+-- a step leads to a state that fits, or ends the run
 abbrev pub IsSound : MidProgram → Step → Type 0
-IsSound program (On m events) = Fits program m
+IsSound program (On s events) = Fits program s
 IsSound program (Ends end events) = Unit {0}
 IsSound program Stuck = ⊥
 
--- an instruction that is not final is followed by another
-followed : (program : MidProgram) (f : MidFunction) (place : ℕ) (l : MidLine) → IsValidFunction program.types f → slice_get f.code place ≡ Some l → (IsFinal l.mid → ⊥) → place + 1 < length f.code
-followed program f place l valid at not_final =
-    let within : place < length f.code = slice_get_within f.code place l at in
-    elim (cases_lt (place + 1) (length f.code)) as (λ _. place + 1 < length f.code) [
-      | inl more ↦ more
-      | inr none ↦
-          let here : length f.code - 1 ≡ place = omega arith in
-          absurd (not_final (valid.last l (rw here at)))
-    ]
-
--- the machine after an instruction that gives a register a value
-sound_given : (program : MidProgram) (m : Machine) (f : MidFunction) (target value : ℕ) → (fits : Fits program m) → function_at program m.top.function ≡ Some f → m.top.place + 1 < length f.code → length m.top.registers ≡ length f.kinds → value < 2 ^ 44 → Fits program (given target value m)
-sound_given program m f target value fits found more count small = record {
-  code = f;
-  found = found;
-  place = more;
-  registers = length-set m.top.registers target value ∙ count;
-  each = All-set (λ v. v < 2 ^ 44) m.top.registers target value small fits.each;
+-- the machine alone changes
+machine_fits : (program : MidProgram) (s : State) (m : Machine) → Fits program s → IsMachine program m → open_count (activations m) ≤ open_count (activations s.machine) → Fits program (record s { machine = m })
+machine_fits program s m h k opens = record {
+  machine = k;
+  memory = h.memory;
+  input = h.input;
+  opened = omega (arith, opens, h.opened);
 }
 
-sound_passed : (program : MidProgram) (m : Machine) (f : MidFunction) → (fits : Fits program m) → function_at program m.top.function ≡ Some f → m.top.place + 1 < length f.code → length m.top.registers ≡ length f.kinds → Fits program (passed m)
-sound_passed program m f fits found more count = record {
-  code = f;
-  found = found;
-  place = more;
-  registers = count;
-  each = fits.each;
+read_fits : (program : MidProgram) (s : State) (target line : ℕ) (events : List Event) (r : Result ℕ Trap) → Fits program s → IfOk r IsValue → ((value : ℕ) → IsValue value → IsMachine program (given target value s.machine)) → IsSound program (after_read target line events s r)
+read_fits program s target line events (Ok value) h small fits = machine_fits program s (given target value s.machine) h (fits value small) (omega arith)
+read_fits program s target line events (Err trap) h small fits = tt
+
+write_fits : (program : MidProgram) (s : State) (line : ℕ) (events : List Event) (r : Result Memory Trap) → Fits program s → IfOk r (AfterWrite s.memory) → IsMachine program (passed s.machine) → IsSound program (after_write line events s r)
+write_fits program s line events (Ok memory) h after fits = record {
+  machine = fits;
+  memory = after.0;
+  input = h.input;
+  opened = omega (arith, after.1, h.opened);
+}
+write_fits program s line events (Err trap) h after fits = tt
+
+begin_fits : (program : MidProgram) (s : State) (part : Part) (target line : ℕ) (r : Result Memory Trap) → Fits program s → IfOk r (AfterBegin part s.memory) → ((number : ℕ) → IsValue (pointer_to number 0) → IsMachine program (given_object target number s.machine)) → IsSound program (after_begin target line (next_number part s.memory) s r)
+begin_fits program s part target line (Ok memory) h after fits = record {
+  machine = fits (next_number part s.memory) after.small;
+  memory = after.kept;
+  input = h.input;
+  opened = omega (arith, after.count, h.opened);
+}
+begin_fits program s part target line (Err trap) h after fits = tt
+
+get_fits : (program : MidProgram) (s : State) (target : ℕ) (input : List ℕ) → Fits program s → All (λ byte. byte < 256) input → ((value : ℕ) → IsValue value → IsMachine program (given target value s.machine)) → IsSound program (after_get target input s)
+get_fits program s target [] h bytes fits = machine_fits program s (given target 4294967295 s.machine) h (fits 4294967295 (omega arith)) (omega arith)
+get_fits program s target (byte ∷ rest) h bytes fits = record {
+  machine = fits byte (omega (arith, All-head (λ b. b < 256) byte rest bytes));
+  memory = h.memory;
+  input = All-tail (λ b. b < 256) byte rest bytes;
+  opened = omega (arith, h.opened);
 }
 
--- one case for each instruction
-sound_act : (program : MidProgram) (m : Machine) (f : MidFunction) (mid : Mid) (line : ℕ) → Fits program m → function_at program m.top.function ≡ Some f → length m.top.registers ≡ length f.kinds → AreFit f.kinds mid → ((IsFinal mid → ⊥) → m.top.place + 1 < length f.code) → IsSound program (step_by (act mid line m) m)
-sound_act program m f (Const target value) line fits found count fit more = sound_given program m f target value fits found (more (λ h. h)) count fit.1
-sound_act program m f (Conv from to target source) line fits found count fit more = sound_given program m f target (convert_of from to (register m source)) fits found (more (λ h. h)) count (small_converted from to (register m source))
-sound_act program m f (Put source) line fits found count fit more = sound_passed program m f fits found (more (λ h. h)) count
-sound_act program m f (Exit source) line fits found count fit more = tt
-sound_act program m f _ line fits found count fit more = absurd fit
+closed_count : (s : State) → 1 ≤ length s.machine.top.opened → open_count (activations (passed_close s.machine)) + 1 ≡ open_count (activations s.machine)
+closed_count s some = counted s.machine.top.opened (open_count s.machine.below) some where
+  counted : {X : Type 0} (xs : List X) (rest : ℕ) → 1 ≤ length xs → length (drop 1 xs) + rest + 1 ≡ length xs + rest
+  counted [] rest some = absurd (omega arith)
+  counted (x ∷ xs) rest some = omega arith
 
--- a step of a machine that fits
-pub sound_step : (program : MidProgram) (m : Machine) → IsValid program → Fits program m → IsSound program (step program m)
-unfolding does
-sound_step program m valid fits =
-    let here = one_within fits.code.code m.top.place fits.place in
-    let at : line_at program m.top.function m.top.place ≡ Some here.0 = ap (λ o. option_and_then (λ f. slice_get f.code m.top.place) o) fits.found ∙ here.1 in
-    let good = valid_function program m.top.function fits.code valid fits.found in
-    let sound = sound_act program m fits.code here.0.mid here.0.line fits fits.found fits.registers (good.each m.top.place here.0 here.1) (followed program fits.code m.top.place here.0 good here.1) in
-    subst (λ o. IsSound program (step_by (act_at o m) m)) (sym at) sound
-
-pub fits_started : (program : MidProgram) → IsValid program → Fits program (started program)
-fits_started program valid =
-    let main = valid.main in
-    let good = valid_function program program.main main.function valid main.found in
-    let count : register_count (function_at program program.main) ≡ length main.function.kinds = ap register_count main.found in
+-- one case for each access
+reach_fits : (program : MidProgram) (s : State) (access : Access) (line : ℕ) → Fits program s → AccessFits program s.machine access → IsSound program (reach program access line s)
+reach_fits program s (Loads target pointer) line h a = read_fits program s target line [] (read_of s.memory pointer) h (read_value s.memory pointer h.memory) a.1
+reach_fits program s (Stores pointer value) line h a = write_fits program s line [] (write_of s.memory pointer value) h (wrote s.memory pointer value h.memory a.1) a.2
+reach_fits program s (VolatileLoads target pointer) line h a = read_fits program s target line _ (read_of s.memory pointer) h (read_value s.memory pointer h.memory) a.1
+reach_fits program s (VolatileStores pointer value) line h a = write_fits program s line _ (write_of s.memory pointer value) h (wrote s.memory pointer value h.memory a.1) a.2
+reach_fits program s (Opens target cells) line h a = begin_fits program s (own_part program s) target line (begin_of (own_part program s) s.memory cells) h (began s.memory (own_part program s) cells h.memory a.0) a.1
+reach_fits program s (Closes number) line h a =
+    let after = finished s.memory number h.memory in
     record {
-      code = main.function;
-      found = main.found;
-      place = omega (arith, good.long);
-      registers = length-replicate (register_count (function_at program program.main)) 0 ∙ count;
-      each = All-replicate (λ v. v < 2 ^ 44) (register_count (function_at program program.main)) 0 (omega arith);
+      machine = a.1;
+      memory = after.0;
+      input = h.input;
+      opened = omega (arith, after.1, h.opened, closed_count s a.0);
     }
+reach_fits program s (Puts value) line h a = machine_fits program s (passed s.machine) h a (omega arith)
+reach_fits program s (Gets target) line h a = get_fits program s target s.input h h.input a
+reach_fits program s (Exits value) line h a = tt
+
+does_fit : (program : MidProgram) (s : State) (d : Does) → Fits program s → DoesFit program s.machine d → OpensKept s.machine d → IsSound program (step_by program d s)
+does_fit program s (Goes next) h fits opens = machine_fits program s next h fits opens
+does_fit program s (Traps trap line) h fits opens = tt
+does_fit program s (Reaches access line) h fits opens = reach_fits program s access line h fits
+does_fit program s Lost h fits opens = fits
+
+-- there is a next instruction
+pub next_found : (program : MidProgram) (m : Machine) (h : IsMachine program m) → (l : MidLine) × (slice_get h.top.code.code m.top.place ≡ Some l) × (line_at program m.top.function m.top.place ≡ Some l)
+next_found program m h =
+    let here = one_within h.top.code.code m.top.place h.top.place in
+    (here.0, here.1, ap (λ o. option_and_then (λ f. slice_get f.code m.top.place) o) h.top.found ∙ here.1)
+
+-- what the machine does, by its next instruction
+pub does-at : (program : MidProgram) (m : Machine) (l : MidLine) → line_at program m.top.function m.top.place ≡ Some l → does program m ≡ act program l.mid l.line m
+unfolding does
+does-at program m l at = ap (λ o. act_at program o m) at
+
+-- what the next instruction does leaves the machine standing
+pub does_stand : (program : MidProgram) (m : Machine) → IsValid program → IsMachine program m → DoesFit program m (does program m) × OpensKept m (does program m)
+does_stand program m valid h =
+    let l = next_found program m h in
+    let k = keeps program m.top.function m.top.place h.top.code l.0 valid h.top.found l.1 in
+    rw (does-at program m l.0 l.2) (act_fits program m h l.0.mid l.0.line valid k, act_opens program m l.0.mid l.0.line)
+
+-- a step of a state that fits
+pub sound_step : (program : MidProgram) (s : State) → IsValid program → Fits program s → IsSound program (step program s)
+sound_step program s valid h =
+    let stands = does_stand program s.machine valid h.machine in
+    does_fit program s (does program s.machine) h stands.0 stands.1
+
+pub fits_on : (program : MidProgram) (s next : State) (events : List Event) → IsValid program → Fits program s → step program s ≡ On next events → Fits program next
+fits_on program s next events valid h e = subst (IsSound program) e (sound_step program s valid h)
 
 not_preceded : (before : List Event) (r : Run) → (r ≡ NoWay → ⊥) → preceded before r ≡ NoWay → ⊥
-not_preceded before (Running m events) not h = cc
+not_preceded before (Running s events) not h = cc
 not_preceded before (Ended end events) not h = cc
 not_preceded before NoWay not h = not refl
 
-not_then : (program : MidProgram) (s : Step) (rest : Machine → Run) → IsSound program s → ((m : Machine) → Fits program m → rest m ≡ NoWay → ⊥) → then_run s rest ≡ NoWay → ⊥
-not_then program (On m events) rest sound not h = not_preceded events (rest m) (not m sound) h
+not_then : (program : MidProgram) (s : Step) (rest : State → Run) → IsSound program s → ((next : State) → Fits program next → rest next ≡ NoWay → ⊥) → then_run s rest ≡ NoWay → ⊥
+not_then program (On s events) rest sound not h = not_preceded events (rest s) (not s sound) h
 not_then program (Ends end events) rest sound not h = cc
 not_then program Stuck rest sound not h = sound
 
-never_stuck_from : (program : MidProgram) → IsValid program → (steps : ℕ) (m : Machine) → Fits program m → exec program steps m ≡ NoWay → ⊥
-never_stuck_from program valid zero m fits h = cc
-never_stuck_from program valid (suc more) m fits h =
-    not_then program (step program m) (exec program more) (sound_step program m valid fits) (λ next fits' g. never_stuck_from program valid more next fits' g) h
+pub never_stuck_from : (program : MidProgram) → IsValid program → (steps : ℕ) (s : State) → Fits program s → exec program steps s ≡ NoWay → ⊥
+never_stuck_from program valid zero s fits h = cc
+never_stuck_from program valid (suc more) s fits h =
+    not_then program (step program s) (exec program more) (sound_step program s valid fits) (λ next fits' g. never_stuck_from program valid more next fits' g) h
 
-pub never_stuck : (program : MidProgram) → IsValid program → (steps : ℕ) → exec program steps (started program) ≡ NoWay → ⊥
-never_stuck program valid steps h = never_stuck_from program valid steps (started program) (fits_started program valid) h
+-- every state of a run fits
+abbrev IfRunning : MidProgram → Run → Type 0
+IfRunning program (Running s events) = Fits program s
+IfRunning program (Ended end events) = Unit {0}
+IfRunning program NoWay = Unit {0}
 
--- the registers of a fit instruction are there
-pub within_fit : (kinds : List RegisterKind) (mid : Mid) → AreFit kinds mid → AreWithin (length kinds) mid
-within_fit kinds (Const target value) fit = fit.0
-within_fit kinds (Conv from to target source) fit = (slice_get_within kinds target Number fit.0, slice_get_within kinds source Number fit.1)
-within_fit kinds (Put source) fit = slice_get_within kinds source Number fit
-within_fit kinds (Exit source) fit = slice_get_within kinds source Number fit
-within_fit kinds _ fit = absurd fit
+running_preceded : (program : MidProgram) (before : List Event) (r : Run) → IfRunning program r → IfRunning program (preceded before r)
+running_preceded program before (Running s events) h = h
+running_preceded program before (Ended end events) h = tt
+running_preceded program before NoWay h = tt
 
--- the registers of the next instruction are there
-pub within_next : (program : MidProgram) (m : Machine) (l : MidLine) → IsValid program → Fits program m → line_at program m.top.function m.top.place ≡ Some l → AreWithin (length m.top.registers) l.mid
-within_next program m l valid fits at =
-    let here : slice_get fits.code.code m.top.place ≡ Some l = sym (ap (λ o. option_and_then (λ f. slice_get f.code m.top.place) o) fits.found) ∙ at in
-    let good = valid_function program m.top.function fits.code valid fits.found in
-    rw fits.registers (within_fit fits.code.kinds l.mid (good.each m.top.place l here))
+running_then : (program : MidProgram) (s : Step) (rest : State → Run) → IsSound program s → ((next : State) → Fits program next → IfRunning program (rest next)) → IfRunning program (then_run s rest)
+running_then program (On s events) rest sound more = running_preceded program events (rest s) (more s sound)
+running_then program (Ends end events) rest sound more = tt
+running_then program Stuck rest sound more = tt
 
--- there is a next instruction
-pub next_found : (program : MidProgram) (m : Machine) → Fits program m → (l : MidLine) × (line_at program m.top.function m.top.place ≡ Some l)
-next_found program m fits =
-    let here = one_within fits.code.code m.top.place fits.place in
-    (here.0, ap (λ o. option_and_then (λ f. slice_get f.code m.top.place) o) fits.found ∙ here.1)
+running_fits : (program : MidProgram) → IsValid program → (steps : ℕ) (s : State) → Fits program s → IfRunning program (exec program steps s)
+running_fits program valid zero s fits = fits
+running_fits program valid (suc more) s fits = running_then program (step program s) (exec program more) (sound_step program s valid fits) (running_fits program valid more)
 
--- a step by its instruction
-pub step-at : (program : MidProgram) (m : Machine) (l : MidLine) → line_at program m.top.function m.top.place ≡ Some l → step program m ≡ step_by (act l.mid l.line m) m
-unfolding does
-step-at program m l at = ap (λ o. step_by (act_at o m) m) at
-
--- the next place is a number of 16 bits
-pub place_small : (program : MidProgram) (m : Machine) → IsValid program → Fits program m → m.top.place < 2 ^ 16
-place_small program m valid fits =
-    let good = valid_function program m.top.function fits.code valid fits.found in
-    omega (arith, good.limit, fits.place)
-
--- an instruction leads to the next place
-next_place-act : (m next : Machine) (mid : Mid) (line : ℕ) (events : List Event) → step_by (act mid line m) m ≡ On next events → next.top.place ≡ m.top.place + 1
-next_place-act m next (Const target value) line events h = let e : given target value m ≡ next = cc in sym (ap (λ x. x.top.place) e)
-next_place-act m next (Conv from to target source) line events h = let e : given target (convert_of from to (register m source)) m ≡ next = cc in sym (ap (λ x. x.top.place) e)
-next_place-act m next (Put source) line events h = let e : passed m ≡ next = cc in sym (ap (λ x. x.top.place) e)
-next_place-act m next (Exit source) line events h = absurd (cc)
-next_place-act m next _ line events h = absurd (cc)
-
-next_place-at : (m next : Machine) (o : Option MidLine) (events : List Event) → step_by (act_at o m) m ≡ On next events → next.top.place ≡ m.top.place + 1
-next_place-at m next None events h = absurd (cc)
-next_place-at m next (Some l) events h = next_place-act m next l.mid l.line events h
-
-pub next_place-step : (program : MidProgram) (m next : Machine) (events : List Event) → step program m ≡ On next events → next.top.place ≡ m.top.place + 1
-unfolding does
-next_place-step program m next events h = next_place-at m next (line_at program m.top.function m.top.place) events h
+pub fits_after : (program : MidProgram) → IsValid program → (steps : ℕ) (s next : State) (events : List Event) → Fits program s → exec program steps s ≡ Running next events → Fits program next
+fits_after program valid steps s next events fits h = subst (IfRunning program) h (running_fits program valid steps s fits)

@@ -10,4 +10,9 @@ pub mod Classes
 pub mod Versions
 pub mod Pairs
 pub mod Fits
+pub mod Start
+pub mod Bounds
 pub mod Meaning
+pub mod Keeps
+pub mod Counting
+pub mod Laws

@@ -2,7 +2,6 @@
 use Rattle.std.specs.Prelude.{◌≤◌, All}
 use Rattle.mid_code.specs.declared.mid.Mid.{Mid}
 use Rattle.mid_code.specs.declared.mid.Mid.TheVariants.{Const, Conv, Put, Exit}
-use Rattle.mid_code.specs.declared.program.MidFunction.{MidFunction}
 use Rattle.mid_code.specs.declared.program.MidProgram.{MidProgram}
 use Rattle.mid_code.specs.Valid.{IsValid}
 use Rattle.mid_code.specs.Classes.{all_sites, protected_functions}

@@ -23,7 +23,7 @@ mod version;
 
 pub use access::Access;
 pub use class::Class;
-pub use laws::{is_determined, is_never_stuck};
+pub use laws::{budgets_are_exact, is_bounded, is_determined, is_never_stuck, values_stay_small};
 pub use mid::Mid;
 pub use pair::{Classed, Pair};
 pub use program::{FunType, MidFunction, MidLine, MidProgram, RegisterKind, Static};
