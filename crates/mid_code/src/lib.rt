@@ -31,3 +31,6 @@ pub use refusal::MidRefusal;
 pub use registers::Registers;
 pub use validity::valid;
 pub use version::{Asks, Version, VersionLine, VersionOp};
+
+#[cfg(test)]
+mod tests;

@@ -17,9 +17,9 @@ returns-in-Some-clause-first c =
     record {
       here = refl;
       broken =
-        rule_within c.args.program.now c.args.number c.loop-place.place c.args.function.now c.requires.bounded
-        ∙ ap (line_rule c.args.program.now c.args.number c.args.function.now c.loop-place.place) there.1
-        ∙ sym (c.in-Some.ensures.exact there.0 there.1);
+          rule_within c.args.program.now c.args.number c.loop-place.place c.args.function.now c.requires.bounded
+          ∙ ap (line_rule c.args.program.now c.args.number c.args.function.now c.loop-place.place) there.1
+          ∙ sym (c.in-Some.ensures.exact there.0 there.1);
       earlier = c.loop-place.invariant.sound;
     }
 
