@@ -1,4 +1,4 @@
-ghost use Rattle.std.specs.Prelude.{◌≡◌, ◌<◌, ◌≤◌, ℕ, length, take, Option, IsTrue, IfOk, OnOk, OnErr};
+ghost use Rattle.std.specs.Prelude.{◌≡◌, ◌<◌, ◌≤◌, ℕ, [], ◌∷◌, length, take, IsTrue, IfOk, OnOk, OnErr};
 ghost use Rattle.srmt_outside.specs.Count.{Rose};
 ghost use Rattle.srmt_outside.specs.Told.{Appends};
 ghost use Rattle.world.specs.World.{opened, stopped, ask};
@@ -71,15 +71,33 @@ impl World {
         ensures before { OnErr result ((n : ℕ) × (n < length (ask self.old request.now).events) × Appends (O.events outlet.old) (O.events outlet.new) (take n (ask self.old request.now).events)) }
         ensures never_falls { O.faults outlet.old ≤ O.faults outlet.new }
     {
-        let event = match *request {
-            Request::Put { value, .. } => Event::Byte((value % 256) as u8),
-            Request::Exit { value, .. } => Event::Exit((value % 256) as u8),
-        };
-        let written = outlet.event(event);
-        if written.is_err() || matches!(event, Event::Exit(_)) {
-            self.live = false;
+        match *request {
+            Request::Put { value, .. } => {
+                self.write(Event::Byte((value % 256) as u8), outlet)?;
+            }
+            Request::Exit { value, .. } => {
+                self.write(Event::Exit((value % 256) as u8), outlet)?;
+                self.live = false;
+            }
         }
-        written?;
         Ok(Response::Done)
+    }
+
+    // Writes one event, without which the world answers no more.
+    fn write<O: Outlet>(&mut self, event: Event, outlet: &mut O) -> Result<(), Failed>
+        ensures same { OnOk result (self.new ≡ self.old) }
+        ensures appends { OnOk result (Appends (O.events outlet.old) (O.events outlet.new) (event ∷ [])) }
+        ensures dead { OnErr result (self.new ≡ stopped self.old) }
+        ensures keeps { OnErr result (O.events outlet.new ≡ O.events outlet.old) }
+        ensures rose { OnErr result (Rose (O.faults outlet.old) (O.faults outlet.new)) }
+        ensures never_falls { O.faults outlet.old ≤ O.faults outlet.new }
+    {
+        match outlet.event(event) {
+            Ok(()) => Ok(()),
+            Err(failed) => {
+                self.live = false;
+                Err(failed)
+            }
+        }
     }
 }
