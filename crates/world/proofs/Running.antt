@@ -6,12 +6,12 @@ use Rattle.srmt_base.specs.declared.trap.SourceEnd.TheVariants.{Trap as TrapEnd}
 use Rattle.srmt_base.specs.declared.limits.Limits.{Limits}
 use Rattle.mid_code.specs.declared.program.MidProgram.{MidProgram}
 use Rattle.mid_code.specs.Machine.{Machine}
-use Rattle.mid_code.specs.Meaning.{Step, On, Ends, Run, Running, Ended as EndedRun, NoWay, step, then_run, preceded, exec, started, Comes, Finishes, Middle}
+use Rattle.mid_code.specs.Meaning.{Run, Running, Ended as EndedRun, NoWay, step, then_run, preceded, exec, started, Comes, Finishes, Middle}
 use Rattle.mid_code.proofs.Runs.{comes_on, finishes_on}
 use Rattle.word_stream.specs.declared.request.Request.{Request}
 use Rattle.word_stream.specs.declared.request.Response.{Response}
 use Rattle.word_stream.specs.Exchange.{is_guarded}
-use Rattle.world.specs.World.{WorldState, Asked, ask}
+use Rattle.world.specs.World.{ask}
 use Rattle.world.specs.Requests.{Wants, Runs, Dies, Requests, Lost, wants, Resumed, Back, Over, resume}
 use Rattle.world.specs.Ideal.{Place, Here, Owed, Ended, IdealState, place_by, requested, here_next, owed_next, next_by, ideal, IsIdeal}
 use Rattle.world.proofs.Telling.{step_after, Tells, tells}
@@ -114,11 +114,11 @@ module _ (program : MidProgram) where
         let so : (ideal program input limits (suc n)).events ≡ c.events ++ (ask c.world q).events = ap (λ (d : IdealState). d.events) next in
         let taken : ideal program input limits (suc (suc n)) ≡ owed_next program m (ask c.world q).response (ideal program input limits (suc n)) = ap (λ p. next_by p program (ideal program input limits (suc n))) owed in
         follows_after more (suc (suc n)) (resume program m (ask c.world q).response) m c.events (ask c.world q).events end events follows
-            (ap (λ (d : IdealState). d.place) taken) (ap (λ (d : IdealState). d.events) taken ∙ so) (told c.world) h
+        (ap (λ (d : IdealState). d.place) taken) (ap (λ (d : IdealState). d.events) taken ∙ so) (told c.world) h
     follows_request more n false m q end events follows next told h =
         let c = ideal program input limits n in
         follows_after more (suc n) (resume program m (ask c.world q).response) m c.events (ask c.world q).events end events follows
-            (ap (λ (d : IdealState). d.place) next) (ap (λ (d : IdealState). d.events) next) (told c.world) h
+        (ap (λ (d : IdealState). d.place) next) (ap (λ (d : IdealState). d.events) next) (told c.world) h
 
     follows_wants : (more n : ℕ) (wanted : Wants) (m : Machine) (end : SourceEnd) (events : List Event) → Follows more →
         let c = ideal program input limits n in
@@ -133,7 +133,7 @@ module _ (program : MidProgram) where
         let same : TrapEnd trap line ≡ end = cc in
         let none : [] ≡ events = cc in
         let all : (ideal program input limits (suc n)).events ≡ (ideal program input limits n).events ++ events =
-            ap (λ (d : IdealState). d.events) is ∙ sym (append-nil (ideal program input limits n).events) ∙ ap (λ es. (ideal program input limits n).events ++ es) none in
+        ap (λ (d : IdealState). d.events) is ∙ sym (append-nil (ideal program input limits n).events) ∙ ap (λ es. (ideal program input limits n).events ++ es) none in
         ended_at (suc n) ((ideal program input limits n).events ++ events) end (ap (λ (d : IdealState). d.place) is ∙ ap Ended same) all
     follows_wants more n (Requests q) m end events follows is told h = follows_request more n (is_guarded q) m q end events follows is told h
     follows_wants more n Lost m end events follows is told h =
