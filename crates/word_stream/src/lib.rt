@@ -6,6 +6,12 @@
 //! `srmt_base`, and takes no memory.
 #![tactic(auto)]
 
+mod out;
 mod request;
+mod table;
+#[cfg(test)]
+mod tests;
 
+pub use out::{Out, words_of};
 pub use request::{Request, Response};
+pub use table::{RequestKind, SiteRow, SiteTable, read_words};
