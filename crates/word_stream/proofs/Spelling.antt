@@ -62,3 +62,11 @@ small-one q site value s all =
 pub spells_either : (q : Request) (site : Site) (value : ℕ) → (q ≡ Put site value) ⊎ (q ≡ Exit site value) → Spells q site.0 value
 spells_either q site value (inl is) = subst (λ r. Spells r site.0 value) (sym is) (spells_put site value)
 spells_either q site value (inr is) = subst (λ r. Spells r site.0 value) (sym is) (spells_exit site value)
+
+pub kind_put : (site : Site) (value : ℕ) → kind_of (Put site value) ≡ AskPut
+unfolding kind_of
+kind_put site value = refl
+
+pub kind_exit : (site : Site) (value : ℕ) → kind_of (Exit site value) ≡ AskExit
+unfolding kind_of
+kind_exit site value = refl
