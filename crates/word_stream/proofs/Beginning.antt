@@ -23,7 +23,7 @@ taken_one zero xs x is = absurd (cc)
 taken_one (suc n) [] x is = absurd (cc)
 taken_one (suc n) (y ∷ ys) x is = ap Some (let same : y ≡ x = cc in same)
 
-all_one : (value : ℕ) → value < 2 ^ 44 → All (λ v. v < 2 ^ 44) (value ∷ [])
+pub all_one : (value : ℕ) → value < 2 ^ 44 → All (λ v. v < 2 ^ 44) (value ∷ [])
 all_one value small zero d within = small
 all_one value small (suc k) d within = absurd (omega arith)
 
