@@ -5,8 +5,8 @@ use Rattle.word_stream.proofs.tests.writes_and_reads_exchanges.Goals as goal
 
 pub sent-first-requires : goal.sent-first-requires
 unfolding operands_of
-sent-first-requires c = all_one 65 (omega arith)
+sent-first-requires g c = all_one 65 (omega arith)
 
 pub sent-first-requires-2 : goal.sent-first-requires-2
 unfolding operands_of
-sent-first-requires-2 c = all_one 300 (omega arith)
+sent-first-requires-2 g c = all_one 300 (omega arith)
