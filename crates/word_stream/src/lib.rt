@@ -1,0 +1,11 @@
+//! What the protected program asks of the outside, what it answers, and both as words.
+//!
+//! An exchange is a request with its response: the operands as words that the trailing thread
+//! checks, and the response as words that it takes. The crate gives requests and responses as
+//! types of their own, writes an exchange as words, and reads one back. It stands on the words of
+//! `srmt_base`, and takes no memory.
+#![tactic(auto)]
+
+mod request;
+
+pub use request::{Request, Response};
