@@ -1,0 +1,6 @@
+pub mod Prefixes
+pub mod Groups
+pub mod Steps
+pub mod Exchanges
+pub mod Ideals
+pub mod Lead
