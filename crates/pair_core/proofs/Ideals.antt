@@ -141,6 +141,9 @@ module _ (program : MidProgram) (input : List ℕ) (limits : Limits) (valid : Is
   pub stands_point : (i : ℕ) (m : Machine) → (ideal program input limits i).place ≡ Here m → Stands program m
   stands_point i m here = subst (PlaceFits program) here (fits_point i)
 
+  pub stands_owed : (i : ℕ) (m : Machine) (r : Response) → (ideal program input limits i).place ≡ Owed m r → Stands program m
+  stands_owed i m r owed = let fits : PlaceFits program (Owed m r) = subst (PlaceFits program) owed (fits_point i) in fits.0
+
   grows_by : (k i : ℕ) → Grows (ideal program input limits i) (ideal program input limits (k + i))
   grows_by zero i = let e : i ≡ zero + i = omega arith in subst (λ x. Grows (ideal program input limits i) (ideal program input limits x)) e (grows_none (ideal program input limits i))
   grows_by (suc k) i =

@@ -4,3 +4,5 @@ pub mod Steps
 pub mod Exchanges
 pub mod Ideals
 pub mod Lead
+pub mod Trail
+pub mod Bounds
