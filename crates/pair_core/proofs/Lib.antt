@@ -6,3 +6,5 @@ pub mod Ideals
 pub mod Lead
 pub mod Trail
 pub mod Bounds
+pub mod Finding
+pub mod Duos
