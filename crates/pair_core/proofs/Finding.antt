@@ -47,32 +47,32 @@ pub found : (side : Side) (program : MidProgram) (s : SideState) (w : WorldState
     IsFound (takes_at (side_op side program s)) (length (next_of side program s w Plain).events) view (finds side program s w fails view)
 found side program s w fails view = found_by (takes_at (side_op side program s)) (may_send_at (side_op side program s)) (length (next_of side program s w Plain).events) view fails
 
--- why a step waits
+-- why a step waits: the other side has not ended, and no word is there, or too little room
 pub data Why (taking sending : Bool) (view : View) : Type 0 where
-  Hungry : taking ≡ true → view.coming ≡ [] → Why taking sending view
-  Crowded : taking ≡ false → sending ≡ true → view.room < length view.going + step_room → Why taking sending view
+  Hungry : taking ≡ true → view.peer_over ≡ false → view.coming ≡ [] → Why taking sending view
+  Crowded : taking ≡ false → sending ≡ true → view.peer_over ≡ false → view.room < length view.going + step_room → Why taking sending view
 
-why_word : (sending : Bool) (view : View) (over : Bool) (coming : List ℕ) → view.coming ≡ coming → finds_word over coming ≡ Waits → Why true sending view
-why_word sending view over (word ∷ words) c h = absurd (cc)
-why_word sending view true [] c h = absurd (cc)
-why_word sending view false [] c h = Hungry refl c
+why_word : (sending : Bool) (view : View) (over : Bool) (coming : List ℕ) → view.peer_over ≡ over → view.coming ≡ coming → finds_word over coming ≡ Waits → Why true sending view
+why_word sending view over (word ∷ words) o c h = absurd (cc)
+why_word sending view true [] o c h = absurd (cc)
+why_word sending view false [] o c h = Hungry refl o c
 
-both_true : (a b c : Bool) → (a && not b && c) ≡ true → (a ≡ true) × (c ≡ true)
-both_true true true c h = absurd (cc)
-both_true true false true h = (refl, refl)
-both_true true false false h = absurd (cc)
-both_true false true c h = absurd (cc)
-both_true false false true h = absurd (cc)
-both_true false false false h = absurd (cc)
+all_true : (a b c : Bool) → (a && not b && c) ≡ true → (a ≡ true) × (b ≡ false) × (c ≡ true)
+all_true true true c h = absurd (cc)
+all_true true false true h = (refl, refl, refl)
+all_true true false false h = absurd (cc)
+all_true false true c h = absurd (cc)
+all_true false false true h = absurd (cc)
+all_true false false false h = absurd (cc)
 
 why_room : (sending : Bool) (view : View) (meet : Meet) (crowded : Bool) → is_crowded sending view ≡ crowded → finds_room crowded meet view.coming ≡ Waits → Why false sending view
 why_room sending view meet true e h =
-    let both = both_true sending view.peer_over (nat_lt view.room (length view.going + step_room)) e in
-    Crowded refl both.0 (ltb-true view.room (length view.going + step_room) both.1)
+    let all = all_true sending view.peer_over (nat_lt view.room (length view.going + step_room)) e in
+    Crowded refl all.0 all.1 (ltb-true view.room (length view.going + step_room) all.2)
 why_room sending view meet false e h = absurd (cc)
 
 why_by : (taking sending : Bool) (view : View) (meet : Meet) → finds_by taking sending view meet ≡ Waits → Why taking sending view
-why_by true sending view meet h = why_word sending view view.peer_over view.coming refl h
+why_by true sending view meet h = why_word sending view view.peer_over view.coming refl refl h
 why_by false sending view meet h = why_room sending view meet (is_crowded sending view) refl h
 
 pub why : (side : Side) (program : MidProgram) (s : SideState) (w : WorldState) (fails : Option ℕ) (view : View) → finds side program s w fails view ≡ Waits → Why (takes_at (side_op side program s)) (may_send_at (side_op side program s)) view

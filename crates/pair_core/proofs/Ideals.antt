@@ -1,6 +1,7 @@
 -- The ideal run: what it writes only grows, and where it has ended it stays.
 use Rattle.std.proofs.Common.{◌≡◌, ℕ, zero, suc, ◌+◌, ◌-◌, ◌<◌, ◌≤◌, Bool, true, List, [], ◌∷◌, ◌++◌, length, refl, sym, ap, ◌∙◌, subst, arith, inl, inr, length-append, append-nil, append_assoc}
 use Rattle.std.proofs.lemmas.Bool.{cases_lt}
+use Rattle.srmt_base.specs.declared.event.Event.{Event}
 use Rattle.srmt_base.specs.declared.limits.Limits.{Limits}
 use Rattle.srmt_base.specs.declared.trap.SourceEnd.{SourceEnd}
 use Rattle.mid_code.specs.declared.program.MidProgram.{MidProgram}
@@ -25,35 +26,39 @@ PlaceFits program (Here m) = Stands program m
 PlaceFits program (Owed m response) = Stands program m × (q : Request) × (wants program m ≡ Requests q)
 PlaceFits program (Ended end) = Unit {0}
 
--- a later state has written all that an earlier one had, and no acknowledgement without a word
+-- a later state has sent and written all that an earlier one had, and no acknowledgement without a word
 pub record Grows (c d : IdealState) : Type 0 where
   pub words : IsPrefix c.words d.words
   pub echoes : IsPrefix c.echoes d.echoes
+  pub events : IsPrefix c.events d.events
   pub paced : length d.echoes + length c.words ≤ length c.echoes + length d.words
 
 pub grows_none : (c : IdealState) → Grows c c
-grows_none c = record { words = prefix_refl c.words; echoes = prefix_refl c.echoes; paced = omega arith }
+grows_none c = record { words = prefix_refl c.words; echoes = prefix_refl c.echoes; events = prefix_refl c.events; paced = omega arith }
 
 pub grows_on : (c d e : IdealState) → Grows c d → Grows d e → Grows c e
 grows_on c d e f g = record {
   words = prefix_trans c.words d.words e.words f.words g.words;
   echoes = prefix_trans c.echoes d.echoes e.echoes f.echoes g.echoes;
+  events = prefix_trans c.events d.events e.events f.events g.events;
   paced = omega (arith, f.paced, g.paced);
 }
 
 -- words alone
-grows_words : (c d : IdealState) (more : List ℕ) → d.words ≡ c.words ++ more → d.echoes ≡ c.echoes → Grows c d
-grows_words c d more e f = record {
+grows_words : (c d : IdealState) (more : List ℕ) → d.words ≡ c.words ++ more → d.echoes ≡ c.echoes → d.events ≡ c.events → Grows c d
+grows_words c d more e f v = record {
   words = (more, e);
   echoes = ([], f ∙ sym (append-nil c.echoes));
+  events = ([], v ∙ sym (append-nil c.events));
   paced = omega (arith, ap length e, length-append c.words more, ap length f);
 }
 
 -- words with as many acknowledgements
-grows_both : (c d : IdealState) (more back : List ℕ) → d.words ≡ c.words ++ more → d.echoes ≡ c.echoes ++ back → length back ≡ length more → Grows c d
-grows_both c d more back e f same = record {
+grows_both : (c d : IdealState) (more back : List ℕ) (new : List Event) → d.words ≡ c.words ++ more → d.echoes ≡ c.echoes ++ back → d.events ≡ c.events ++ new → length back ≡ length more → Grows c d
+grows_both c d more back new e f v same = record {
   words = (more, e);
   echoes = (back, f);
+  events = (new, v);
   paced = omega (arith, ap length e, length-append c.words more, ap length f, length-append c.echoes back);
 }
 
@@ -98,16 +103,16 @@ module _ (program : MidProgram) (c : IdealState) where
         }) h
 
   grows_here : (m : Machine) → Stands program m → (x : Wants) → wants program m ≡ x → Grows c (here_next x program m c)
-  grows_here m stands (Runs next) h = grows_words c (record c { place = Here next }) [] (sym (append-nil c.words)) refl
+  grows_here m stands (Runs next) h = grows_words c (record c { place = Here next }) [] (sym (append-nil c.words)) refl refl
   grows_here m stands (Dies trap line) h = absurd (never_dies program m stands (next_line program m stands) trap line h)
   grows_here m stands (Requests q) h =
       let e : requested (is_guarded q) program m q (ask c.world q) c ≡ asked_state program m q c = ap (λ b. requested b program m q (ask c.world q) c) (asks_guarded program m stands q h) in
-      subst (Grows c) (sym e) (grows_both c (asked_state program m q c) (checks_of q) (acks_of q) refl refl (same_count program m stands q h))
+      subst (Grows c) (sym e) (grows_both c (asked_state program m q c) (checks_of q) (acks_of q) (ask c.world q).events refl refl refl (same_count program m stands q h))
   grows_here m stands Lost h = grows_none c
 
   grows_at : (p : Place) → PlaceFits program p → Grows c (next_by p program c)
   grows_at (Here m) fits = grows_here m fits (wants program m) refl
-  grows_at (Owed m r) fits = grows_words c (owed_next program m r c) (words_owed (wants program m) r) refl refl
+  grows_at (Owed m r) fits = grows_words c (owed_next program m r c) (words_owed (wants program m) r) refl refl refl
   grows_at (Ended end) fits = grows_none c
 
   pub grows_next : PlaceFits program c.place → Grows c (ideal_next program c)

@@ -8,3 +8,6 @@ pub mod Trail
 pub mod Bounds
 pub mod Finding
 pub mod Duos
+pub mod Standing
+pub mod Sounds
+pub mod Answering

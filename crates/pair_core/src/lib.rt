@@ -5,6 +5,8 @@
 //! that holds over every order. It stands on the steps of `machine`.
 #![tactic(auto)]
 
+mod laws;
 mod verdict;
 
+pub use laws::over_every_schedule;
 pub use verdict::{Ran, Report, Verdict};
