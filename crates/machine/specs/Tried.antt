@@ -57,6 +57,12 @@ abbrev pub Sends : Bool → List ℕ → List ℕ → List ℕ → Type 0
 Sends gone before [] after = after ≡ before
 Sends gone before (word ∷ words) after = Sends gone (before ++ word ∷ []) words after ⊎ ((gone ≡ true) × Sends gone before words after)
 
+-- a step that was made left the side so
+abbrev pub Comes : Stepped → SideState → Outcome → Type 0
+Comes Made s outcome = outcome ≡ Went s
+Comes NotYet s outcome = ⊥
+Comes (MadeLast end) s outcome = outcome ≡ Ended end
+
 -- a step was made: what it met, what it asked of its link, and what it gave
 pub record Makes (taking sending : Bool) (gives : Meet → StepGives) (outcome : Outcome) (w : WorldState) (events : List Event) (before after : Shown) : Type 0 where
   pub meet : Meet

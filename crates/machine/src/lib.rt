@@ -8,10 +8,12 @@
 #![tactic(auto)]
 
 mod heard;
+mod leading;
 mod link;
 mod link_call;
 mod machine;
 mod one_step;
+mod steps;
 #[cfg(test)]
 mod tests;
 mod thread_end;
