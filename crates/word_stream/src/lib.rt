@@ -6,6 +6,14 @@
 //! `srmt_base`, and takes no memory.
 #![tactic(auto)]
 
+mod laws;
+mod out;
 mod request;
+mod table;
+#[cfg(test)]
+mod tests;
 
+pub use laws::exchanges_read_back;
+pub use out::{Out, words_of};
 pub use request::{Request, Response};
+pub use table::{RequestKind, SiteRow, SiteTable, read_words};

@@ -5,15 +5,9 @@ use srmt_base::Site;
 #[derive(Clone, Copy, Debug, PartialEq, Eq)]
 pub enum Request {
     /// Writes the value modulo 256 as a byte: `putchar` (C11 7.21.7.8).
-    Put {
-        site: Site,
-        value: u64,
-    },
+    Put { site: Site, value: u64 },
     /// Ends the run with the value modulo 256 as its status: `exit` (C11 7.22.4.4).
-    Exit {
-        site: Site,
-        value: u64,
-    },
+    Exit { site: Site, value: u64 },
 }
 
 /// What the outside answers.

@@ -1,5 +1,5 @@
 -- What each request gives.
-use Rattle.std.proofs.Common.{◌≡◌, ◌<◌, ℕ, ◌%◌, Bool, false, List, [], ◌∷◌, length, take, Option, Result, Ok, Err, OnErr, ap, ◌∙◌, sym, subst, arith}
+use Rattle.std.proofs.Common.{◌≡◌, ◌<◌, ℕ, ◌%◌, List, [], ◌∷◌, length, take, Option, Result, Ok, Err, OnErr, ap, sym, subst, arith}
 use Rattle.srmt_base.specs.declared.event.Event.{Event}
 use Rattle.srmt_base.specs.declared.event.Event.TheVariants.{Byte, Exit as ExitEvent}
 use Rattle.srmt_base.specs.declared.word.Site.{Site}
@@ -8,7 +8,7 @@ use Rattle.srmt_outside.proofs.Told.{Appends-nothing}
 use Rattle.word_stream.specs.declared.request.Request.{Request}
 use Rattle.word_stream.specs.declared.request.Request.TheVariants.{Put, Exit}
 use Rattle.word_stream.specs.declared.request.Response.TheVariants.{Done}
-use Rattle.world.specs.World.{WorldState, Asked, ask, stopped}
+use Rattle.world.specs.World.{WorldState, ask, stopped}
 
 pub ask-put : (w : WorldState) (q : Request) (site : Site) (value : ℕ) → q ≡ Put site value → ask w q ≡ record { world = w; response = Done; events = Byte (value % 256) ∷ [] }
 unfolding ask

@@ -34,6 +34,7 @@ impl World {
     ) -> Result<World, AllocError>
         ensures { IfOk result (λ world. world ≡ opened pair.now input.items limits) }
     {
+        // No request reads the input or spends a budget yet.
         let _ = (pair, input, limits);
         Ok(World { live: true })
     }
@@ -85,6 +86,7 @@ impl World {
 
     // Writes one event, without which the world answers no more.
     fn write<O: Outlet>(&mut self, event: Event, outlet: &mut O) -> Result<(), Failed>
+        requires { IsTrue self.old.live }
         ensures same { OnOk result (self.new ≡ self.old) }
         ensures appends { OnOk result (Appends (O.events outlet.old) (O.events outlet.new) (event ∷ [])) }
         ensures dead { OnErr result (self.new ≡ stopped self.old) }
@@ -92,12 +94,8 @@ impl World {
         ensures rose { OnErr result (Rose (O.faults outlet.old) (O.faults outlet.new)) }
         ensures never_falls { O.faults outlet.old ≤ O.faults outlet.new }
     {
-        match outlet.event(event) {
-            Ok(()) => Ok(()),
-            Err(failed) => {
-                self.live = false;
-                Err(failed)
-            }
-        }
+        let written = outlet.event(event);
+        self.live = written.is_ok();
+        written
     }
 }

@@ -1,4 +1,4 @@
-use Rattle.std.proofs.Common.{◌≡◌, ◌%◌, ap, ◌∙◌, sym, subst, List}
+use Rattle.std.proofs.Common.{◌%◌, ap, ◌∙◌, sym, subst, List}
 use Rattle.srmt_base.specs.declared.event.Event.{Event}
 use Rattle.srmt_base.specs.declared.event.Event.TheVariants.{Byte, Exit as ExitEvent}
 use Rattle.srmt_outside.specs.Told.{Appends}
