@@ -11,7 +11,7 @@ use Rattle.word_stream.specs.declared.table.SiteRow.{SiteRow}
 use Rattle.word_stream.specs.declared.table.SiteTable.{SiteTable}
 use Rattle.word_stream.specs.Exchange.{request_site}
 use Rattle.word_stream.specs.Reading.{row_at, kind_of, Begins}
-use Rattle.word_stream.proofs.Spelling.{Spells, spells_one, request_of, request_of-spelled, done_alone, exchange-one, small-one}
+use Rattle.word_stream.proofs.Spelled.{Spells, spells_one, request_of, request_of-spelled, done_alone, exchange-one, small-one}
 
 take_one : {X : Type 0} (xs : List X) (x : X) → slice_get xs 0 ≡ Some x → take 1 xs ≡ x ∷ []
 take_one [] x at = absurd (cc)
