@@ -103,7 +103,7 @@ module _ (program : MidProgram) (input : List ℕ) (limits : Limits) (valid : Is
         ]
 
     -- an acknowledgement that comes is right, and the link of the leading side is never closed
-    lead_meets : (s : SideState) → duo.lead ≡ Went s → (meet : Meet) (left : List ℕ) → CanMeet Lead program s duo.world meet → duo.acks ≡ word_met meet ++ left → (meet ≡ Closed → (is_over duo.trail ≡ true) × (duo.acks ≡ [])) → LeadMeets program input limits valid g.lead meet
+    pub lead_meets : (s : SideState) → duo.lead ≡ Went s → (meet : Meet) (left : List ℕ) → CanMeet Lead program s duo.world meet → duo.acks ≡ word_met meet ++ left → (meet ≡ Closed → (is_over duo.trail ≡ true) × (duo.acks ≡ [])) → LeadMeets program input limits valid g.lead meet
     lead_meets s at Plain left can coming closed = tt
     lead_meets s at (Failed written) left can coming closed = tt
     lead_meets s at (Got word) left can coming closed =
@@ -173,7 +173,7 @@ module _ (program : MidProgram) (input : List ℕ) (limits : Limits) (valid : Is
           | inr fault ↦ (fault, all)
         ]
 
-    trail_meets : (s : SideState) → duo.trail ≡ Went s → (meet : Meet) (left : List ℕ) → CanMeet Trail program s duo.world meet → duo.words ≡ word_met meet ++ left → (meet ≡ Closed → (is_over duo.lead ≡ true) × (duo.words ≡ [])) → TrailMeets program input limits valid (Quits g.lead) g.trail meet
+    pub trail_meets : (s : SideState) → duo.trail ≡ Went s → (meet : Meet) (left : List ℕ) → CanMeet Trail program s duo.world meet → duo.words ≡ word_met meet ++ left → (meet ≡ Closed → (is_over duo.lead ≡ true) × (duo.words ≡ [])) → TrailMeets program input limits valid (Quits g.lead) g.trail meet
     trail_meets s at Plain left can coming closed = tt
     trail_meets s at (Failed written) left can coming closed = tt
     trail_meets s at (Got word) left can coming closed =
@@ -188,7 +188,7 @@ module _ (program : MidProgram) (input : List ℕ) (limits : Limits) (valid : Is
       abbrev trail_after : Past
       trail_after = grown g.trail meet trail_gives
 
-      can_trail : CanMeet Trail program s g.trail.world meet
+      pub can_trail : CanMeet Trail program s g.trail.world meet
       can_trail = subst (λ n. MeetsBy (takes_at (side_op Trail program s)) n meet) (ap length (alike program s duo.world g.trail.world Plain).events) can
 
       trail_next_at : (k : ℕ) × TrailAt program (ideal program input limits k) (Quits g.lead) trail_after

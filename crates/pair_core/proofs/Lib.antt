@@ -11,3 +11,5 @@ pub mod Duos
 pub mod Standing
 pub mod Sounds
 pub mod Answering
+pub mod Measure
+pub mod Lowering

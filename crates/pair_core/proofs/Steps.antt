@@ -2,6 +2,7 @@
 -- programs know them.
 use Rattle.std.proofs.Common.{◌≡◌, ℕ, zero, suc, ◌+◌, ◌<◌, ◌≤◌, ◌%◌, Bool, true, false, List, [], ◌∷◌, ◌++◌, length, map, take, Option, Some, None, slice_get, ◌==◌, if◌then◌else◌, refl, sym, ap, ap₂, ◌∙◌, subst, arith, eq-eqb}
 use Rattle.srmt_base.specs.declared.event.Event.{Event}
+use Rattle.srmt_base.specs.declared.side.Side.{Side}
 use Rattle.srmt_base.specs.declared.side.Side.TheVariants.{Lead, Trail}
 use Rattle.srmt_base.specs.declared.trap.Trap.{Trap}
 use Rattle.srmt_base.specs.declared.trap.SourceEnd.{SourceEnd}
@@ -31,6 +32,10 @@ use Rattle.pair_core.proofs.Groups.{Stands, Next, group_start, group_place, put_
 
 abbrev pub gave : Outcome → List ℕ → WorldState → List Event → StepGives
 gave outcome sent w events = record { outcome = outcome; sent = sent; world = w; events = events }
+
+-- the side stands at an instruction of its version
+abbrev pub IsPresent : Side → MidProgram → SideState → Type 0
+IsPresent side program s = (l : VersionLine) × (side_op side program s ≡ Some l)
 
 -- the one element of a list, found within it
 pub single : {A : Type 0} (a x : A) (before after : List A) → a ∷ [] ≡ before ++ x ∷ after → (before ≡ []) × (x ≡ a) × (after ≡ [])
@@ -95,6 +100,22 @@ module _ (program : MidProgram) (m : Machine) (stands : Stands program m) (n : N
 
   pub trail_runs_sends : (next : Machine) → wants program m ≡ Runs next → may_send_at (side_op Trail program (trail_side program m 0)) ≡ false
   trail_runs_sends next h = ap may_send_at (trail_copied next h (group_runs program m stands n next h))
+
+  -- the sides stand at an instruction, and where they go on
+  pub lead_runs_here : (next : Machine) → wants program m ≡ Runs next → IsPresent Lead program (lead_side program m 0 [])
+  lead_runs_here next h = (_, lead_copied next h (group_runs program m stands n next h))
+
+  pub trail_runs_here : (next : Machine) → wants program m ≡ Runs next → IsPresent Trail program (trail_side program m 0)
+  trail_runs_here next h = (_, trail_copied next h (group_runs program m stands n next h))
+
+  pub runs_function : (next : Machine) → wants program m ≡ Runs next → next.top.function ≡ m.top.function
+  runs_function next h = (group_runs program m stands n next h).function
+
+  pub lead_runs_place : (next : Machine) → wants program m ≡ Runs next → group_place leading_ops program m + 0 + 1 ≡ group_place leading_ops program next + 0
+  lead_runs_place next h = let g = group_runs program m stands n next h in copied_next next h g leading_ops g.lead
+
+  pub trail_runs_place : (next : Machine) → wants program m ≡ Runs next → group_place trailing_ops program m + 0 + 1 ≡ group_place trailing_ops program next + 0
+  trail_runs_place next h = let g = group_runs program m stands n next h in copied_next next h g trailing_ops g.trail
 
   -- an instruction that asks the world
   module _ (q : Request) (g : ExchangeGroup program m q n.line) where
