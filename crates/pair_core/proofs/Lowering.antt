@@ -1,5 +1,5 @@
 -- Each event of the core that is no wait leaves both sides less to go, until they have ended.
-use Rattle.std.proofs.Common.{◌≡◌, ◌≢◌, ℕ, zero, suc, ◌+◌, ◌<◌, ◌≤◌, Bool, true, false, List, [], ◌++◌, length, Option, refl, sym, ap, ◌∙◌, subst, subst₂, arith}
+use Rattle.std.proofs.Common.{◌≡◌, ◌≢◌, ℕ, ◌+◌, ◌<◌, List, length, Option, refl, sym, ap, ◌∙◌, subst, subst₂, arith}
 use Rattle.srmt_base.specs.declared.event.Event.{Event}
 use Rattle.srmt_base.specs.declared.limits.Limits.{Limits}
 use Rattle.srmt_base.specs.declared.side.Side.{Side}
@@ -8,10 +8,10 @@ use Rattle.mid_code.specs.declared.program.MidProgram.{MidProgram}
 use Rattle.mid_code.specs.Pairs.{HasSites}
 use Rattle.mid_code.specs.Valid.{IsValid}
 use Rattle.machine.specs.declared.thread_end.Stepped.TheVariants.{NotYet}
-use Rattle.machine.specs.Side.{SideState, Meet, Plain, Outcome, Went, Ended, StepGives}
+use Rattle.machine.specs.Side.{SideState, Plain, Outcome, Went, Ended}
 use Rattle.machine.specs.Steps.{side_op, takes_at}
 use Rattle.machine.specs.Meets.{next_of, CanMeet}
-use Rattle.pair_core.specs.Duo.{DuoState, is_over, View, view_of, Finds, Waits, Meets, finds, made, turn_found, turn_at, turn_of, Scheduled, scheduled, Reached}
+use Rattle.pair_core.specs.Duo.{DuoState, view_of, Finds, Waits, Meets, finds, turn_found, turn_at, turn_of, Reached}
 use Rattle.pair_core.proofs.Finding.{IsFound, found, alike}
 use Rattle.pair_core.proofs.Duos.{Good, Quits, good_scheduled, lead_meets, trail_meets, can_trail}
 use Rattle.pair_core.proofs.Measure.{side_left, duo_left, lead_lowers, trail_lowers}
