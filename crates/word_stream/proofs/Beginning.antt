@@ -1,18 +1,17 @@
 -- The exchange with which a row of words begins.
-use Rattle.std.proofs.Common.{◌≡◌, ◌<◌, ◌≤◌, ◌^◌, ℕ, zero, suc, List, [], ◌∷◌, length, take, Option, Some, None, refl, ap, ◌∙◌, sym, subst, arith}
+use Rattle.std.proofs.Common.{◌≡◌, ◌<◌, ◌^◌, ℕ, zero, suc, List, [], ◌∷◌, length, take, Option, Some, None, refl, ap, ◌∙◌, sym, subst, arith}
 use Rattle.std.specs.Prelude.{All, slice_get}
-use Rattle.srmt_base.specs.declared.word.Kind.{Kind}
 use Rattle.srmt_base.specs.declared.word.Kind.TheVariants.{Check}
-use Rattle.srmt_base.specs.Word.{word_of, kind_code, kind_part, site_part, value_part, IsWord}
+use Rattle.srmt_base.specs.Word.{word_of, kind_part, site_part, value_part}
 use Rattle.word_stream.specs.declared.request.Request.{Request}
 use Rattle.word_stream.specs.declared.request.Response.{Response}
 use Rattle.word_stream.specs.declared.request.Response.TheVariants.{Done}
 use Rattle.word_stream.specs.declared.table.RequestKind.{RequestKind}
 use Rattle.word_stream.specs.declared.table.SiteRow.{SiteRow}
 use Rattle.word_stream.specs.declared.table.SiteTable.{SiteTable}
-use Rattle.word_stream.specs.Exchange.{request_site, operands_of, exchange}
-use Rattle.word_stream.specs.Reading.{row_at, kind_of, IsOf, Begins}
-use Rattle.word_stream.proofs.Spelling.{Spells, spells_one, request_of, request_of-spelled, done_alone, exchange-one, small-one}
+use Rattle.word_stream.specs.Exchange.{request_site}
+use Rattle.word_stream.specs.Reading.{row_at, kind_of, Begins}
+use Rattle.word_stream.proofs.Spelled.{Spells, spells_one, request_of, request_of-spelled, done_alone, exchange-one, small-one}
 
 take_one : {X : Type 0} (xs : List X) (x : X) → slice_get xs 0 ≡ Some x → take 1 xs ≡ x ∷ []
 take_one [] x at = absurd (cc)
@@ -23,7 +22,7 @@ taken_one zero xs x is = absurd (cc)
 taken_one (suc n) [] x is = absurd (cc)
 taken_one (suc n) (y ∷ ys) x is = ap Some (let same : y ≡ x = cc in same)
 
-all_one : (value : ℕ) → value < 2 ^ 44 → All (λ v. v < 2 ^ 44) (value ∷ [])
+pub all_one : (value : ℕ) → value < 2 ^ 44 → All (λ v. v < 2 ^ 44) (value ∷ [])
 all_one value small zero d within = small
 all_one value small (suc k) d within = absurd (omega arith)
 

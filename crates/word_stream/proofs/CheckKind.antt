@@ -1,5 +1,5 @@
 -- Whether a word is one to be checked.
-use Rattle.std.proofs.Common.{◌≡◌, Bool, true, false, not, refl, arith}
+use Rattle.std.proofs.Common.{◌≡◌, true, false, not, refl, arith}
 use denote.Enum.Bare.{sameb}
 use Rattle.srmt_base.specs.contracts.word.Kind.{the_type}
 use Rattle.srmt_base.specs.declared.word.Kind.{Kind}

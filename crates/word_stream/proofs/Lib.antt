@@ -1,3 +1,3 @@
-pub mod Spelling
+pub mod Spelled
 pub mod Beginning
 pub mod CheckKind

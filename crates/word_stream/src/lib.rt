@@ -7,13 +7,13 @@
 #![tactic(auto)]
 
 mod laws;
-mod out;
 mod request;
+mod spelling;
 mod table;
 #[cfg(test)]
 mod tests;
 
 pub use laws::exchanges_read_back;
-pub use out::{Out, words_of};
 pub use request::{Request, Response};
+pub use spelling::{Out, words_of};
 pub use table::{RequestKind, SiteRow, SiteTable, read_words};

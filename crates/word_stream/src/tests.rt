@@ -1,3 +1,6 @@
+ghost use Rattle.std.specs.Prelude.{◌^◌, ◌<◌, All};
+ghost use Rattle.word_stream.specs.Exchange.{operands_of};
+
 use crate::{Out, Request, RequestKind, Response, SiteRow, SiteTable, read_words, words_of};
 use sqlite_items::Items;
 use srmt_base::{Kind, Site, Word, pack};
@@ -24,33 +27,29 @@ fn sites(alloc: Global) -> Result<SiteTable, AllocError> {
     Ok(SiteTable { sites, params })
 }
 
+// The first word of a request's exchange, and what is read back from its words.
+fn sent(kinds: &SiteTable, request: Request) -> (Option<u64>, Option<(Request, Response, usize)>)
+    requires { All (λ v. v < 2 ^ 44) (operands_of request) }
+{
+    let mut out = Out::new();
+    words_of(&request, &Response::Done, &mut out);
+    let first = out.words().first().map(|word| word.bits());
+    (first, read_words(kinds, out.words()))
+}
+
 #[test]
 fn writes_and_reads_exchanges(rt: HostRuntime) -> Result<(), Fail> {
     let kinds = sites(rt.alloc())?;
-    let mut out = Out::new();
-    assert!(rt; out.words().is_empty());
-    for (request, bits) in [
-        (
-            Request::Put {
-                site: Site(1),
-                value: 65,
-            },
-            0x1000_1000_0000_0041,
-        ),
-        (
-            Request::Exit {
-                site: Site(2),
-                value: 300,
-            },
-            0x1000_2000_0000_012c,
-        ),
-    ] {
-        words_of(&request, &Response::Done, &mut out);
-        assert_eq!(rt; out.words().len(), 1);
-        assert_eq!(rt; out.words()[0].bits(), bits);
-        let read = read_words(&kinds, out.words());
-        assert_eq!(rt; read, Some((request, Response::Done, 1)));
-    }
+    let (site, value) = (Site(1), 65);
+    let request = Request::Put { site, value };
+    let (first, read) = sent(&kinds, request);
+    assert_eq!(rt; first, Some(0x1000_1000_0000_0041));
+    assert_eq!(rt; read, Some((request, Response::Done, 1)));
+    let (site, value) = (Site(2), 300);
+    let request = Request::Exit { site, value };
+    let (first, read) = sent(&kinds, request);
+    assert_eq!(rt; first, Some(0x1000_2000_0000_012c));
+    assert_eq!(rt; read, Some((request, Response::Done, 1)));
     Ok(())
 }
 

@@ -1,11 +1,7 @@
-use Rattle.std.proofs.Common.{◌≡◌, ◌∙◌, sym, ap, Some, None, ℕ}
-use Rattle.word_stream.specs.declared.request.Request.{Request}
-use Rattle.word_stream.specs.declared.request.Response.{Response}
-use Rattle.word_stream.specs.declared.request.Response.TheVariants.{Done}
-use Rattle.word_stream.specs.declared.table.SiteRow.{SiteRow}
+use Rattle.std.proofs.Common.{◌≡◌, ◌∙◌, sym, ap, Some, None}
 use Rattle.word_stream.specs.Reading.{row_at}
-use Rattle.word_stream.proofs.Spelling.{spells_put, spells_exit, kind_put, kind_exit}
-use Rattle.word_stream.proofs.Beginning.{begins_one, check_parts, matches, matches_none, told, same_row, read_one}
+use Rattle.word_stream.proofs.Spelled.{spells_put, spells_exit, kind_put, kind_exit}
+use Rattle.word_stream.proofs.Beginning.{matches, matches_none, same_row, read_one}
 use Rattle.word_stream.proofs.CheckKind.{is_check, is_other}
 use Rattle.word_stream.proofs.table.read_words.Goals as goal
 

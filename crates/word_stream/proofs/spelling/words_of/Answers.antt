@@ -1,6 +1,6 @@
 use Rattle.std.proofs.Common.{◌≡◌, ap, ◌∙◌, sym, subst, [], ◌∷◌, ◌++◌}
-use Rattle.word_stream.proofs.Spelling.{spells_either, small-one, exchange-one}
-use Rattle.word_stream.proofs.out.words_of.Goals as goal
+use Rattle.word_stream.proofs.Spelled.{spells_either, small-one, exchange-one}
+use Rattle.word_stream.proofs.spelling.words_of.Goals as goal
 
 pub pack-requires : goal.pack-requires
 pack-requires c = small-one _ _ _ (spells_either _ _ _ c.in-Put.is) c.requires

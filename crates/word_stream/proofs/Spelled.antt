@@ -1,5 +1,5 @@
 -- The words of each request, and the request that words spell.
-use Rattle.std.proofs.Common.{◌≡◌, ◌<◌, ◌^◌, ℕ, List, [], ◌∷◌, length, take, ◌⊎◌, inl, inr, refl, ap, ◌∙◌, sym, subst, arith}
+use Rattle.std.proofs.Common.{◌≡◌, ◌<◌, ◌^◌, ℕ, [], ◌∷◌, ◌⊎◌, inl, inr, refl, sym, subst, arith}
 use Rattle.std.specs.Prelude.{All}
 use Rattle.srmt_base.specs.declared.word.Site.{Site}
 use Rattle.srmt_base.specs.declared.word.Kind.TheVariants.{Check}
@@ -10,7 +10,7 @@ use Rattle.word_stream.specs.declared.request.Response.{Response}
 use Rattle.word_stream.specs.declared.request.Response.TheVariants.{Done}
 use Rattle.word_stream.specs.declared.table.RequestKind.{RequestKind}
 use Rattle.word_stream.specs.declared.table.RequestKind.TheVariants.{Put as AskPut, Exit as AskExit}
-use Rattle.word_stream.specs.Exchange.{request_site, operands_of, response_words, check_words, exchange}
+use Rattle.word_stream.specs.Exchange.{request_site, operands_of, response_words, exchange}
 use Rattle.word_stream.specs.Reading.{kind_of}
 
 -- a request with one operand
