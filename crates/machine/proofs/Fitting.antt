@@ -68,7 +68,7 @@ module _ (side : Side) (program : MidProgram) (s : SideState) (valid : IsValid p
       let n = here.next not_last in
       let after = placed side program s.machine.top.function (s.machine.top.place + 1) n.0 valid n.1 in
       let at : version_at (versions_of side program) next.top.function next.top.place ≡ Some n.0 =
-          ap (λ f. version_at (versions_of side program) f next.top.place) goes.function ∙ ap (version_at (versions_of side program) s.machine.top.function) goes.place ∙ n.1 in
+      ap (λ f. version_at (versions_of side program) f next.top.place) goes.function ∙ ap (version_at (versions_of side program) s.machine.top.function) goes.place ∙ n.1 in
       record {
         function = fits.function;
         line = n.0;
@@ -105,7 +105,7 @@ fits_opening side program valid =
     let some : 0 < length group = omega (arith, length-with_line first.0.line (ops_of side site first.0.mid), (group_fits side main.function.kinds site first.0.mid (good.each 0 first.0 first.1)).some) in
     let l = one_within group 0 some in
     let at : version_at (versions_of side program) program.main 0 ≡ Some l.0 =
-        ap (λ vs. version_at vs program.main 0) (versions_so side program) ∙ fetch (ops_of side) program program.main main.function 0 first.0 0 main.found main.of_main_file first.1 some ∙ l.1 in
+    ap (λ vs. version_at vs program.main 0) (versions_so side program) ∙ fetch (ops_of side) program program.main main.function 0 first.0 0 main.found main.of_main_file first.1 some ∙ l.1 in
     let stands = placed side program program.main 0 l.0 valid at in
     let count : register_count (function_at program program.main) ≡ length main.function.kinds = ap register_count main.found in
     record {

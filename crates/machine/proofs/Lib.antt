@@ -5,3 +5,5 @@ pub mod Sending
 pub mod Performing
 pub mod Comparing
 pub mod Trying
+pub mod Keeping
+pub mod Standing

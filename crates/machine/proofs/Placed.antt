@@ -92,10 +92,10 @@ module _ (side : Side) (kinds : List RegisterKind) where
       let op : slice_get (ops_of side site x.mid) i ≡ Some l.op = get-with_line x.line (ops_of side site x.mid) i l at in
       let good : OpFits side kinds l.op = each_at (OpFits side kinds) (ops_of side site x.mid) i l.op (group_at site x fit.0).each op in
       let next : (IsLast l.op → ⊥) → HasNext (version_code (ops_of side) site (x ∷ xs)) i = λ not_last.
-          elim (cases_lt (i + 1) (length front)) as (λ _. HasNext (version_code (ops_of side) site (x ∷ xs)) i) [
-            | inl more ↦ let n = one_within front (i + 1) more in (n.0, get_front front rest (i + 1) more ∙ n.1)
-            | inr none ↦ next_behind site x xs i l fit final (omega arith) op not_last
-          ] in
+      elim (cases_lt (i + 1) (length front)) as (λ _. HasNext (version_code (ops_of side) site (x ∷ xs)) i) [
+        | inl more ↦ let n = one_within front (i + 1) more in (n.0, get_front front rest (i + 1) more ∙ n.1)
+        | inr none ↦ next_behind site x xs i l fit final (omega arith) op not_last
+      ] in
       (good, next)
 
   final_rest : (x : MidLine) (xs : List MidLine) → EndsFinal (x ∷ xs) → EndsFinal xs

@@ -34,7 +34,7 @@ pub record SentSo (gone_before gone : Bool) (spare : ℕ) (before sent words : L
 
 pub sent_none : (gone : Bool) (spare : ℕ) (before : List ℕ) → (18 ≤ spare) ⊎ (gone ≡ true) → SentSo gone gone spare before before [] 0
 sent_none gone spare before room = record {
-  room = elim room as (λ _. (18 ≤ spare + 0) ⊎ (gone ≡ true)) [ | inl r ↦ inl (omega arith) | inr r ↦ inr r ];
+  room = elim room as (λ _. (18 ≤ spare + 0) ⊎ (gone ≡ true)) [ inl r ↦ inl (omega arith) | inr r ↦ inr r ];
   sent_so = refl;
   few = omega arith;
   stays = λ h. h;
@@ -43,7 +43,7 @@ sent_none gone spare before room = record {
 -- there is room for one of them
 pub room_for_one : (gone_before gone : Bool) (spare : ℕ) (before sent words : List ℕ) (count : ℕ) → SentSo gone_before gone spare before sent words count → count < 18 → (1 ≤ spare) ⊎ (gone ≡ true)
 room_for_one gone_before gone spare before sent words count so few =
-    elim so.room as (λ _. (1 ≤ spare) ⊎ (gone ≡ true)) [ | inl r ↦ inl (omega arith) | inr r ↦ inr r ]
+    elim so.room as (λ _. (1 ≤ spare) ⊎ (gone ≡ true)) [ inl r ↦ inl (omega arith) | inr r ↦ inr r ]
 
 -- one word more, as a link sends it
 sent_next : (gone_before gone now : Bool) (spare left : ℕ) (before sent more words : List ℕ) (word count : ℕ) →
@@ -52,7 +52,7 @@ sent_next : (gone_before gone now : Bool) (spare left : ℕ) (before sent more w
     SentSo gone_before now left before more (words ++ word ∷ []) (count + 1)
 sent_next gone_before gone now spare left before sent more words word count so one leaves stays = record {
   room = elim so.room as (λ _. (18 ≤ left + (count + 1)) ⊎ (now ≡ true)) [
-    | inl r ↦ elim leaves as (λ _. (18 ≤ left + (count + 1)) ⊎ (now ≡ true)) [ | inl l ↦ inl (omega arith) | inr l ↦ inr l ]
+    | inl r ↦ elim leaves as (λ _. (18 ≤ left + (count + 1)) ⊎ (now ≡ true)) [ inl l ↦ inl (omega arith) | inr l ↦ inr l ]
     | inr r ↦ inr (stays r)
   ];
   sent_so = Sends-gone gone now before (words ++ word ∷ []) more stays (Sends-one_more gone before words sent word more so.sent_so one);

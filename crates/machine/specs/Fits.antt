@@ -1,5 +1,5 @@
 -- A side that stands within its version.
-use Rattle.std.specs.Prelude.{ℕ, ◌≡◌, ◌^◌, ◌<◌, List, [], Option, Some, length, All}
+use Rattle.std.specs.Prelude.{ℕ, ◌≡◌, ◌^◌, ◌<◌, List, [], Option, Some, length, All, IsTrue}
 use Rattle.srmt_base.specs.declared.side.Side.{Side}
 use Rattle.mid_code.specs.declared.program.MidProgram.{MidProgram}
 use Rattle.mid_code.specs.declared.program.MidFunction.{MidFunction}
@@ -9,6 +9,7 @@ use Rattle.mid_code.specs.declared.version.VersionLine.{VersionLine}
 use Rattle.mid_code.specs.Program.{function_at}
 use Rattle.machine.specs.declared.thread_end.Stepped.{Stepped}
 use Rattle.machine.specs.declared.thread_end.Stepped.TheVariants.{Went, NotYet, Ended}
+use Rattle.world.specs.World.{WorldState}
 use Rattle.machine.specs.Side.{SideState}
 use Rattle.machine.specs.Steps.{side_op}
 
@@ -38,3 +39,9 @@ abbrev pub FitsAfter : Stepped → Side → MidProgram → SideState → Type 0
 FitsAfter Went side program s = SideFits side program s
 FitsAfter NotYet side program s = SideFits side program s
 FitsAfter (Ended end) side program s = Unit {0}
+
+-- and its world answers on
+abbrev pub LivesAfter : Stepped → WorldState → Type 0
+LivesAfter Went w = IsTrue w.live
+LivesAfter NotYet w = IsTrue w.live
+LivesAfter (Ended end) w = Unit {0}

@@ -17,9 +17,12 @@ mod steps;
 #[cfg(test)]
 mod tests;
 mod thread_end;
+mod trailing;
 
+pub use leading::lead_step;
 pub use link::Link;
 pub use link_call::{LastCall, Taken};
 pub use machine::Machine;
 pub use one_step::OneStep;
 pub use thread_end::{Stepped, ThreadEnd};
+pub use trailing::trail_step;

@@ -1,23 +1,23 @@
 -- The steps of both sides within the group of an instruction that asks the world.
-use Rattle.std.proofs.Common.{◌≡◌, ℕ, zero, suc, ◌+◌, ◌<◌, Bool, true, false, List, [], ◌∷◌, ◌++◌, length, take, refl, sym, ap, ap₂, ◌∙◌, subst, arith}
+use Rattle.std.proofs.Common.{◌≡◌, ℕ, suc, ◌+◌, ◌≤◌, true, false, List, [], ◌∷◌, ◌++◌, length, take, sym, ap, ap₂, ◌∙◌, arith}
 use Rattle.srmt_base.specs.declared.side.Side.TheVariants.{Lead, Trail}
 use Rattle.srmt_base.specs.declared.trap.SourceEnd.{SourceEnd}
 use Rattle.mid_code.specs.declared.program.MidProgram.{MidProgram}
-use Rattle.mid_code.specs.Versions.{trailing_ops}
-use Rattle.mid_code.specs.Machine.{Machine, passed}
+use Rattle.mid_code.specs.Versions.{leading_ops, trailing_ops}
+use Rattle.mid_code.specs.Machine.{Machine}
 use Rattle.word_stream.specs.declared.request.Request.{Request}
 use Rattle.word_stream.specs.declared.request.Response.{Response}
 use Rattle.word_stream.specs.Exchange.{is_guarded, response_words, checks_of, acks_of}
-use Rattle.world.specs.World.{WorldState, Asked, ask, stopped}
+use Rattle.world.specs.World.{WorldState, ask, stopped}
 use Rattle.world.specs.Requests.{Requests, wants, Back, Over, resume}
 use Rattle.machine.specs.declared.thread_end.ThreadEnd.TheVariants.{PeerEnded, WriteFault}
-use Rattle.machine.specs.Side.{SideState, Plain, Got, Closed, Failed, Outcome, Went, Ended, StepGives}
+use Rattle.machine.specs.Side.{Plain, Got, Closed, Failed, Went, Ended}
 use Rattle.machine.specs.Steps.{side_op, takes_at, may_send_at, passed_on}
 use Rattle.machine.specs.Leading.{lead_next}
 use Rattle.machine.specs.Trailing.{trail_next}
 use Rattle.pair_core.specs.Laws.{end_as}
-use Rattle.pair_core.proofs.Groups.{Stands, Next, next_line, lead_side, trail_side, ExchangeGroup, group_asks, passed_within}
-use Rattle.pair_core.proofs.Steps.{gave, single, own_check, ask_op, await_op, act_op, check_op, ack_op, end_op, lead_asks_by, lead_hears_by, lead_acts_by, lead_fails_by, lead_behind, trail_behind, trail_checks_one, trail_closed_by, trail_acks_by, trail_ends_by}
+use Rattle.pair_core.proofs.Groups.{Stands, Next, next_line, group_place, lead_side, trail_side, ExchangeGroup, group_asks, passed_within}
+use Rattle.pair_core.proofs.Steps.{gave, IsPresent, single, own_check, ask_op, await_op, act_op, check_op, ack_op, end_op, lead_asks_by, lead_hears_by, lead_acts_by, lead_fails_by, lead_behind, trail_behind, trail_checks_one, trail_closed_by, trail_acks_by, trail_ends_by}
 
 module _ (program : MidProgram) (m : Machine) (stands : Stands program m) (q : Request) (h : wants program m ≡ Requests q) where
   n : Next program m
@@ -127,3 +127,40 @@ module _ (program : MidProgram) (m : Machine) (stands : Stands program m) (q : R
   pub trail_ends_sends : (r : Response) (end : SourceEnd) → resume program m r ≡ Over end → may_send_at (side_op Trail program (trail_side program m (suc (length (checks_of q))))) ≡ false
   trail_ends_sends r end over =
       ap (λ k. may_send_at (side_op Trail program (trail_side program m (suc k)))) one_check ∙ ap may_send_at (end_op program m stands n q g (g.over r end over).0)
+
+  -- the sides stand at an instruction, and where they go on
+  pub acks_few : length (acks_of q) ≤ 17
+  acks_few = omega (arith, ap length g.acks)
+
+  pub lead_ask_here : IsPresent Lead program (lead_side program m 0 [])
+  lead_ask_here = (_, ask_op program m stands n q g)
+
+  pub lead_await_here : (heard : List ℕ) → IsPresent Lead program (lead_side program m 1 heard)
+  lead_await_here heard = (_, await_op program m stands n q g heard)
+
+  pub lead_act_here : IsPresent Lead program (lead_side program m 2 [])
+  lead_act_here = (_, act_op program m stands n q g)
+
+  pub trail_check_here : (done : List ℕ) (x : ℕ) (rest : List ℕ) → checks_of q ≡ done ++ x ∷ rest → IsPresent Trail program (trail_side program m (length done))
+  trail_check_here done x rest e =
+      let one = single (own_check program m stands n q g) x done rest (sym g.checks ∙ e) in
+      (_, ap (λ ds. side_op Trail program (trail_side program m (length ds))) one.0 ∙ check_op program m stands n q g)
+
+  pub trail_ack_here : IsPresent Trail program (trail_side program m (length (checks_of q)))
+  trail_ack_here = (_, ap (λ k. side_op Trail program (trail_side program m k)) one_check ∙ ack_op program m stands n q g)
+
+  pub trail_end_here : (r : Response) (end : SourceEnd) → resume program m r ≡ Over end → IsPresent Trail program (trail_side program m (suc (length (checks_of q))))
+  trail_end_here r end over = (_, ap (λ k. side_op Trail program (trail_side program m (suc k))) one_check ∙ end_op program m stands n q g (g.over r end over).0)
+
+  pub back_function : (r : Response) (next : Machine) → resume program m r ≡ Back next → next.top.function ≡ m.top.function
+  back_function r next back = ap (λ x. x.top.function) (g.back r next back).0
+
+  pub lead_back_place : (r : Response) (next : Machine) → resume program m r ≡ Back next → group_place leading_ops program m + 2 + 1 ≡ group_place leading_ops program next + 0
+  lead_back_place r next back =
+      ap (λ s. s.machine.top.place) (lead_behind program m stands n q g) ∙ ap (λ x. group_place leading_ops program x + 0) (sym (g.back r next back).0)
+
+  pub trail_back_place : (r : Response) (next : Machine) → resume program m r ≡ Back next → group_place trailing_ops program m + length (checks_of q) + 1 ≡ group_place trailing_ops program next + 0
+  trail_back_place r next back =
+      let b = g.back r next back in
+      ap (λ k. group_place trailing_ops program m + k + 1) one_check
+      ∙ ap (λ s. s.machine.top.place) (trail_behind program m stands n q g b.1) ∙ ap (λ x. group_place trailing_ops program x + 0) (sym b.0)

@@ -11,3 +11,7 @@ pub mod Duos
 pub mod Standing
 pub mod Sounds
 pub mod Answering
+pub mod Measure
+pub mod Lowering
+pub mod Reaching
+pub mod Faults

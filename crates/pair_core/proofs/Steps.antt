@@ -1,11 +1,10 @@
 -- The steps of both sides within the group of one instruction: the laws by which the runs of whole
 -- programs know them.
-use Rattle.std.proofs.Common.{◌≡◌, ℕ, zero, suc, ◌+◌, ◌<◌, ◌≤◌, ◌%◌, Bool, true, false, List, [], ◌∷◌, ◌++◌, length, map, take, Option, Some, None, slice_get, ◌==◌, if◌then◌else◌, refl, sym, ap, ap₂, ◌∙◌, subst, arith, eq-eqb}
+use Rattle.std.proofs.Common.{◌≡◌, ℕ, ◌+◌, ◌<◌, false, List, [], ◌∷◌, ◌++◌, length, take, Some, slice_get, if◌then◌else◌, refl, sym, ap, ap₂, ◌∙◌, subst, arith, eq-eqb}
 use Rattle.srmt_base.specs.declared.event.Event.{Event}
+use Rattle.srmt_base.specs.declared.side.Side.{Side}
 use Rattle.srmt_base.specs.declared.side.Side.TheVariants.{Lead, Trail}
-use Rattle.srmt_base.specs.declared.trap.Trap.{Trap}
 use Rattle.srmt_base.specs.declared.trap.SourceEnd.{SourceEnd}
-use Rattle.srmt_base.specs.declared.trap.SourceEnd.TheVariants.{Trap as SourceTrap}
 use Rattle.srmt_base.specs.declared.word.Kind.TheVariants.{Check as CheckKind, Ack as AckKind}
 use Rattle.srmt_base.specs.Word.{word_of}
 use Rattle.mid_code.specs.declared.mid.Mid.{Mid}
@@ -18,19 +17,23 @@ use Rattle.mid_code.specs.Versions.{leading_ops, trailing_ops, with_line}
 use Rattle.mid_code.specs.Machine.{Machine, register, passed}
 use Rattle.word_stream.specs.declared.request.Request.{Request}
 use Rattle.word_stream.specs.declared.request.Response.{Response}
-use Rattle.word_stream.specs.Exchange.{response_words, checks_of, acks_of}
-use Rattle.world.specs.World.{WorldState, Asked, ask, stopped}
-use Rattle.world.specs.Requests.{Wants, Runs, Dies, Requests, next_site, wants, Back, Over, resume}
+use Rattle.word_stream.specs.Exchange.{checks_of, acks_of}
+use Rattle.world.specs.World.{WorldState, ask, stopped}
+use Rattle.world.specs.Requests.{Runs, next_site, wants, Over, resume}
 use Rattle.machine.specs.declared.thread_end.ThreadEnd.TheVariants.{Echo, Mismatch, PeerEnded, WriteFault}
 use Rattle.machine.specs.Side.{SideState, Plain, Got, Closed, Failed, Outcome, Went, Ended, StepGives}
 use Rattle.machine.specs.Steps.{side_op, takes_at, may_send_at, passed_on, performed, quiet}
 use Rattle.machine.specs.Leading.{lead_at, lead_next, acts}
 use Rattle.machine.specs.Trailing.{trail_at, trail_next}
 use Rattle.pair_core.specs.Laws.{end_as}
-use Rattle.pair_core.proofs.Groups.{Stands, Next, group_start, group_place, put_at, within_group, lead_side, trail_side, op_within, next_start, passed_within, CopiedGroup, ExchangeGroup, group_runs, group_asks, never_dies}
+use Rattle.pair_core.proofs.Groups.{Stands, Next, group_start, group_place, put_at, lead_side, trail_side, op_within, next_start, passed_within, CopiedGroup, ExchangeGroup, group_runs}
 
 abbrev pub gave : Outcome → List ℕ → WorldState → List Event → StepGives
 gave outcome sent w events = record { outcome = outcome; sent = sent; world = w; events = events }
+
+-- the side stands at an instruction of its version
+abbrev pub IsPresent : Side → MidProgram → SideState → Type 0
+IsPresent side program s = (l : VersionLine) × (side_op side program s ≡ Some l)
 
 -- the one element of a list, found within it
 pub single : {A : Type 0} (a x : A) (before after : List A) → a ∷ [] ≡ before ++ x ∷ after → (before ≡ []) × (x ≡ a) × (after ≡ [])
@@ -95,6 +98,22 @@ module _ (program : MidProgram) (m : Machine) (stands : Stands program m) (n : N
 
   pub trail_runs_sends : (next : Machine) → wants program m ≡ Runs next → may_send_at (side_op Trail program (trail_side program m 0)) ≡ false
   trail_runs_sends next h = ap may_send_at (trail_copied next h (group_runs program m stands n next h))
+
+  -- the sides stand at an instruction, and where they go on
+  pub lead_runs_here : (next : Machine) → wants program m ≡ Runs next → IsPresent Lead program (lead_side program m 0 [])
+  lead_runs_here next h = (_, lead_copied next h (group_runs program m stands n next h))
+
+  pub trail_runs_here : (next : Machine) → wants program m ≡ Runs next → IsPresent Trail program (trail_side program m 0)
+  trail_runs_here next h = (_, trail_copied next h (group_runs program m stands n next h))
+
+  pub runs_function : (next : Machine) → wants program m ≡ Runs next → next.top.function ≡ m.top.function
+  runs_function next h = (group_runs program m stands n next h).function
+
+  pub lead_runs_place : (next : Machine) → wants program m ≡ Runs next → group_place leading_ops program m + 0 + 1 ≡ group_place leading_ops program next + 0
+  lead_runs_place next h = let g = group_runs program m stands n next h in copied_next next h g leading_ops g.lead
+
+  pub trail_runs_place : (next : Machine) → wants program m ≡ Runs next → group_place trailing_ops program m + 0 + 1 ≡ group_place trailing_ops program next + 0
+  trail_runs_place next h = let g = group_runs program m stands n next h in copied_next next h g trailing_ops g.trail
 
   -- an instruction that asks the world
   module _ (q : Request) (g : ExchangeGroup program m q n.line) where

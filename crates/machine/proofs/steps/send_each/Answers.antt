@@ -13,5 +13,5 @@ loop-arg-preserved g c =
     let i : ℕ = c.loop-arg.arg-index in
     let word : c.pack.result ≡ f (r (get_or args i 0)) = c.pack.ensures ∙ ap f c.register-value.ensures in
     let words : map f (map r (take i args)) ++ c.pack.result ∷ [] ≡ map f (map r (take (i + 1) args)) =
-        ap (λ x. map f (map r (take i args)) ++ x ∷ []) word ∙ sym (words_more f r args i c.loop-arg-test.true) in
+    ap (λ x. map f (map r (take i args)) ++ x ∷ []) word ∙ sym (words_more f r args i c.loop-arg-test.true) in
     (sent_one _ _ _ _ _ _ _ _ _ _ _ i words before.0 c.send.ensures.sent c.send.ensures.spare c.send.ensures.stays_gone, c.send.ensures.taken ∙ before.1, c.send.ensures.asks ∙ before.2, c.send.ensures.last ∙ before.3, c.send.ensures.made ∙ before.4)
