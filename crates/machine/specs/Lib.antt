@@ -1,2 +1,10 @@
 pub mod Origin
 pub mod OneStep
+pub mod Side
+pub mod Steps
+pub mod Leading
+pub mod Trailing
+pub mod Meets
+pub mod Tried
+pub mod Fits
+pub mod View

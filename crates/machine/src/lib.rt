@@ -1,16 +1,28 @@
-//! The machine of one side: for now the link over which its steps reach the other side.
+//! One step of each side of a pair, over any link to the other side.
 //!
 //! The crate gives the trait `Link`, whose clauses say what every link does, and `OneStep`, the
-//! link in memory for one step. The steps of the leading and of the trailing side join later. It
-//! stands on the words of `srmt_base`, and takes no memory.
+//! link in memory for one step; and the machine of one side with `lead_step` and `trail_step`, which
+//! are exactly the steps that the definitions give. It stands on the versions of `mid_code`, the
+//! words of `word_stream`, the world, and the outlets of `srmt_outside`. Nothing after
+//! `Machine::start` takes memory.
 #![tactic(auto)]
 
+mod heard;
+mod leading;
 mod link;
 mod link_call;
+mod machine;
 mod one_step;
+mod steps;
 #[cfg(test)]
 mod tests;
+mod thread_end;
+mod trailing;
 
+pub use leading::lead_step;
 pub use link::Link;
 pub use link_call::{LastCall, Taken};
+pub use machine::Machine;
 pub use one_step::OneStep;
+pub use thread_end::{Stepped, ThreadEnd};
+pub use trailing::trail_step;

@@ -7,4 +7,4 @@
 
 mod run;
 
-pub use run::MidRun;
+pub use run::{MidRun, act};

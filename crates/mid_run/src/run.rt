@@ -124,8 +124,8 @@ impl MidRun {
     }
 }
 
-// Performs an instruction on the registers, or says what it wants of the outside.
-fn act(mid: Mid, registers: &mut Vec<u64>) -> Option<Access>
+/// Performs an instruction on the registers, or says what it wants of the outside.
+pub fn act(mid: Mid, registers: &mut Vec<u64>) -> Option<Access>
     requires { AreWithin (vec_len registers.old) mid }
     ensures { ActsOn mid registers.old.items registers.new.items result }
 {

@@ -1,0 +1,9 @@
+pub mod Groups
+pub mod Placed
+pub mod Fitting
+pub mod Sending
+pub mod Performing
+pub mod Comparing
+pub mod Trying
+pub mod Keeping
+pub mod Standing

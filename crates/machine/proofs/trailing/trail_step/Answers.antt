@@ -1,0 +1,131 @@
+use Rattle.std.proofs.Common.{◌≡◌, ◌<◌, ◌%◌, ◌∙◌, Some, true, [], ◌++◌, inl, inr, refl, ap, sym, subst, arith, append-nil}
+use Rattle.std.specs.Option.{option_copied}
+use Rattle.srmt_base.specs.declared.side.Side.TheVariants.{Trail}
+use Rattle.mid_code.specs.Machine.{act, register}
+use Rattle.mid_code.specs.declared.version.VersionOp.TheVariants.{Copied, Ask, Await, Act, Check, Ack, End}
+use Rattle.word_stream.specs.declared.request.Request.{Request}
+use Rattle.world.specs.World.{WorldState, ask}
+use Rattle.machine.specs.declared.link_call.LastCall.TheVariants.{Nothing}
+use Rattle.machine.specs.declared.thread_end.ThreadEnd.TheVariants.{Exit as ExitEnd}
+use Rattle.machine.specs.declared.thread_end.Stepped.TheVariants.{Ended as MadeLast}
+use Rattle.machine.specs.Side.{Plain, Ended}
+use Rattle.machine.specs.Steps.{performed, operands}
+use Rattle.machine.specs.Leading.{acts}
+use Rattle.machine.specs.Tried.{Shown, TriesBy}
+use Rattle.machine.proofs.Trying.{was_quiet}
+use Rattle.machine.proofs.Standing.{found_at, small_place, op_here, heard_here, args_within, source_within, copied_within, trail_tries, trail_fits_after}
+use Rattle.machine.proofs.trailing.trail_step.Goals as goal
+
+pub perform-stepped-requires-clause-registers : goal.perform-stepped-requires-clause-registers
+perform-stepped-requires-clause-registers g c =
+    let at = found_at Trail c.args.pair.now c.args.m.now _ c.in-Some.line.now _ c.m.view_is c.trailing_at.ensures (ap option_copied c.in-Some.is) in
+    let here = op_here Trail c.args.pair.now c.args.m.now c.classed-pair.ensures.sites.valid c.requires.fits c.in-Some.line.now (Copied c.in-Copied.mid) at c.in-Copied.is in
+    copied_within Trail c.args.pair.now c.args.m.now c.classed-pair.ensures.sites.valid c.requires.fits c.in-Copied.mid here
+
+pub perform-stepped-requires-clause-alone : goal.perform-stepped-requires-clause-alone
+perform-stepped-requires-clause-alone g c =
+    let at = found_at Trail c.args.pair.now c.args.m.now _ c.in-Some.line.now _ c.m.view_is c.trailing_at.ensures (ap option_copied c.in-Some.is) in
+    let here = op_here Trail c.args.pair.now c.args.m.now c.classed-pair.ensures.sites.valid c.requires.fits c.in-Some.line.now (Copied c.in-Copied.mid) at c.in-Copied.is in
+    here.alone
+
+pub perform-stepped-requires-clause-place : goal.perform-stepped-requires-clause-place
+perform-stepped-requires-clause-place g c =
+    small_place Trail c.args.pair.now c.args.m.now c.classed-pair.ensures.sites.valid c.requires.fits
+
+pub check_word-stepped-requires-clause-register : goal.check_word-stepped-requires-clause-register
+check_word-stepped-requires-clause-register g c =
+    let at = found_at Trail c.args.pair.now c.args.m.now _ c.in-Some.line.now _ c.m.view_is c.trailing_at.ensures (ap option_copied c.in-Some.is) in
+    let here = op_here Trail c.args.pair.now c.args.m.now c.classed-pair.ensures.sites.valid c.requires.fits c.in-Some.line.now (Check c.in-Check.site c.in-Check.source) at c.in-Check.is in
+    source_within Trail c.args.pair.now c.args.m.now c.classed-pair.ensures.sites.valid c.requires.fits c.in-Check.source here
+
+pub check_word-stepped-requires-clause-place : goal.check_word-stepped-requires-clause-place
+check_word-stepped-requires-clause-place g c =
+    small_place Trail c.args.pair.now c.args.m.now c.classed-pair.ensures.sites.valid c.requires.fits
+
+pub send_operands-stepped-requires-clause-few : goal.send_operands-stepped-requires-clause-few
+send_operands-stepped-requires-clause-few g c =
+    let at = found_at Trail c.args.pair.now c.args.m.now _ c.in-Some.line.now _ c.m.view_is c.trailing_at.ensures (ap option_copied c.in-Some.is) in
+    let here = op_here Trail c.args.pair.now c.args.m.now c.classed-pair.ensures.sites.valid c.requires.fits c.in-Some.line.now (Ack c.in-Ack.site c.in-Ack.args) at c.in-Ack.is in
+    here.few
+
+pub send_operands-stepped-requires-clause-registers : goal.send_operands-stepped-requires-clause-registers
+send_operands-stepped-requires-clause-registers g c =
+    let at = found_at Trail c.args.pair.now c.args.m.now _ c.in-Some.line.now _ c.m.view_is c.trailing_at.ensures (ap option_copied c.in-Some.is) in
+    let here = op_here Trail c.args.pair.now c.args.m.now c.classed-pair.ensures.sites.valid c.requires.fits c.in-Some.line.now (Ack c.in-Ack.site c.in-Ack.args) at c.in-Ack.is in
+    args_within Trail c.args.pair.now c.args.m.now c.classed-pair.ensures.sites.valid c.requires.fits c.in-Ack.args here
+
+pub send_operands-stepped-requires-clause-place : goal.send_operands-stepped-requires-clause-place
+send_operands-stepped-requires-clause-place g c =
+    small_place Trail c.args.pair.now c.args.m.now c.classed-pair.ensures.sites.valid c.requires.fits
+
+pub register-requires : goal.register-requires
+register-requires g c =
+    let at = found_at Trail c.args.pair.now c.args.m.now _ c.in-Some.line.now _ c.m.view_is c.trailing_at.ensures (ap option_copied c.in-Some.is) in
+    let here = op_here Trail c.args.pair.now c.args.m.now c.classed-pair.ensures.sites.valid c.requires.fits c.in-Some.line.now (End c.in-End.source) at c.in-End.is in
+    source_within Trail c.args.pair.now c.args.m.now c.classed-pair.ensures.sites.valid c.requires.fits c.in-End.source here
+
+pub unreachable-requires-in-Ask : goal.unreachable-requires-in-Ask
+unreachable-requires-in-Ask g c =
+    let at = found_at Trail c.args.pair.now c.args.m.now _ c.in-Some.line.now _ c.m.view_is c.trailing_at.ensures (ap option_copied c.in-Some.is) in
+    elim c.in-Ask.is [
+      | inl ask ↦ op_here Trail c.args.pair.now c.args.m.now c.classed-pair.ensures.sites.valid c.requires.fits c.in-Some.line.now (Ask ask.0 ask.1) at ask.2
+      | inr rest ↦ elim rest [
+        | inl await ↦ op_here Trail c.args.pair.now c.args.m.now c.classed-pair.ensures.sites.valid c.requires.fits c.in-Some.line.now (Await await.0 await.1) at await.2
+        | inr act ↦ op_here Trail c.args.pair.now c.args.m.now c.classed-pair.ensures.sites.valid c.requires.fits c.in-Some.line.now (Act act.0 act.1 act.2) at act.3
+      ]
+    ]
+
+pub returns-in-Copied-clause-step : goal.returns-in-Copied-clause-step
+returns-in-Copied-clause-step g c w =
+    let at = found_at Trail c.args.pair.now c.args.m.now _ c.in-Some.line.now _ c.m.view_is c.trailing_at.ensures (ap option_copied c.in-Some.is) in
+    trail_tries c.args.pair.now c.args.m.now c.perform-stepped.new.m w w c.perform-stepped.result [] _ _ c.in-Some.line.now (Copied c.in-Copied.mid) at c.in-Copied.is
+    (was_quiet _ c.args.m.now c.perform-stepped.new.m w c.perform-stepped.result _ c.perform-stepped.ensures)
+
+pub returns-in-Copied-clause-fits : goal.returns-in-Copied-clause-fits
+returns-in-Copied-clause-fits g c =
+    let at = found_at Trail c.args.pair.now c.args.m.now _ c.in-Some.line.now _ c.m.view_is c.trailing_at.ensures (ap option_copied c.in-Some.is) in
+    let w : WorldState = record { live = true } in
+    let link : Shown = record { sent = []; taken = []; gone = true; asks = 0; last = Nothing } in
+    let tries =
+    trail_tries c.args.pair.now c.args.m.now c.perform-stepped.new.m w w c.perform-stepped.result [] link link c.in-Some.line.now (Copied c.in-Copied.mid) at c.in-Copied.is
+    (was_quiet _ c.args.m.now c.perform-stepped.new.m w c.perform-stepped.result link c.perform-stepped.ensures)
+    in
+    trail_fits_after c.args.pair.now c.args.m.now c.perform-stepped.new.m w w [] link link c.perform-stepped.result c.classed-pair.ensures.sites.valid c.requires.fits tries
+
+pub returns-in-Check-clause-step : goal.returns-in-Check-clause-step
+returns-in-Check-clause-step g c w =
+    let at = found_at Trail c.args.pair.now c.args.m.now _ c.in-Some.line.now _ c.m.view_is c.trailing_at.ensures (ap option_copied c.in-Some.is) in
+    trail_tries c.args.pair.now c.args.m.now c.check_word-stepped.new.m w w c.check_word-stepped.result [] _ _ c.in-Some.line.now (Check c.in-Check.site c.in-Check.source) at c.in-Check.is
+    (c.check_word-stepped.ensures.tries w)
+
+pub returns-in-Check-clause-fits : goal.returns-in-Check-clause-fits
+returns-in-Check-clause-fits g c =
+    let at = found_at Trail c.args.pair.now c.args.m.now _ c.in-Some.line.now _ c.m.view_is c.trailing_at.ensures (ap option_copied c.in-Some.is) in
+    let w : WorldState = record { live = true } in
+    let tries =
+    trail_tries c.args.pair.now c.args.m.now c.check_word-stepped.new.m w w c.check_word-stepped.result [] _ _ c.in-Some.line.now (Check c.in-Check.site c.in-Check.source) at c.in-Check.is
+    (c.check_word-stepped.ensures.tries w)
+    in
+    trail_fits_after c.args.pair.now c.args.m.now c.check_word-stepped.new.m w w [] _ _ c.check_word-stepped.result c.classed-pair.ensures.sites.valid c.requires.fits tries
+
+pub returns-in-Ack-clause-step : goal.returns-in-Ack-clause-step
+returns-in-Ack-clause-step g c w =
+    let at = found_at Trail c.args.pair.now c.args.m.now _ c.in-Some.line.now _ c.m.view_is c.trailing_at.ensures (ap option_copied c.in-Some.is) in
+    trail_tries c.args.pair.now c.args.m.now c.send_operands-stepped.new.m w w c.send_operands-stepped.result [] _ _ c.in-Some.line.now (Ack c.in-Ack.site c.in-Ack.args) at c.in-Ack.is
+    (c.send_operands-stepped.ensures.tries w)
+
+pub returns-in-Ack-clause-fits : goal.returns-in-Ack-clause-fits
+returns-in-Ack-clause-fits g c =
+    let at = found_at Trail c.args.pair.now c.args.m.now _ c.in-Some.line.now _ c.m.view_is c.trailing_at.ensures (ap option_copied c.in-Some.is) in
+    let w : WorldState = record { live = true } in
+    let tries =
+    trail_tries c.args.pair.now c.args.m.now c.send_operands-stepped.new.m w w c.send_operands-stepped.result [] _ _ c.in-Some.line.now (Ack c.in-Ack.site c.in-Ack.args) at c.in-Ack.is
+    (c.send_operands-stepped.ensures.tries w)
+    in
+    trail_fits_after c.args.pair.now c.args.m.now c.send_operands-stepped.new.m w w [] _ _ c.send_operands-stepped.result c.classed-pair.ensures.sites.valid c.requires.fits tries
+
+pub returns-in-End-clause-step : goal.returns-in-End-clause-step
+returns-in-End-clause-step g c w =
+    let at = found_at Trail c.args.pair.now c.args.m.now _ c.in-Some.line.now _ c.m.view_is c.trailing_at.ensures (ap option_copied c.in-Some.is) in
+    trail_tries c.args.pair.now c.args.m.now c.args.m.now w w (MadeLast (ExitEnd (c.register.result % 256))) [] _ _ c.in-Some.line.now (End c.in-End.source) at c.in-End.is
+    (was_quiet (Ended (ExitEnd (register c.args.m.now.machine c.in-End.source % 256))) c.args.m.now c.args.m.now w (MadeLast (ExitEnd (c.register.result % 256))) _ (ap (λ v. Ended (ExitEnd (v % 256))) (sym c.register.ensures)))

@@ -1,0 +1,75 @@
+-- One step of the leading side.
+use Rattle.std.specs.Prelude.{ℕ, Bool, true, false, List, [], ◌∷◌, ◌++◌, Option, Some, None, length, take, slice_index, nat_lt, ◌==◌, ◌%◌, if◌then◌else◌}
+use Rattle.srmt_base.specs.declared.side.Side.TheVariants.{Lead}
+use Rattle.srmt_base.specs.declared.word.Site.{Site}
+use Rattle.mid_code.specs.declared.program.MidProgram.{MidProgram}
+use Rattle.mid_code.specs.declared.version.Asks.{Asks}
+use Rattle.mid_code.specs.declared.version.Asks.TheVariants.{Put as AskPut, Exit as AskExit}
+use Rattle.mid_code.specs.declared.version.VersionOp.{VersionOp}
+use Rattle.mid_code.specs.declared.version.VersionOp.TheVariants.{Copied, Ask, Await, Act, Check, Ack, End}
+use Rattle.mid_code.specs.declared.version.VersionLine.{VersionLine}
+use Rattle.mid_code.specs.Machine.{act}
+use Rattle.word_stream.specs.declared.request.Request.{Request}
+use Rattle.word_stream.specs.declared.request.Request.TheVariants.{Put, Exit}
+use Rattle.word_stream.specs.declared.request.Response.{Response}
+use Rattle.word_stream.specs.Exchange.{check_words, ack_words, response_words}
+use Rattle.world.specs.World.{WorldState, Asked, ask, stopped}
+use Rattle.machine.specs.declared.thread_end.ThreadEnd.TheVariants.{Exit as ExitEnd, Echo, PeerEnded, WriteFault}
+use Rattle.machine.specs.Side.{SideState, Meet, Plain, Got, Closed, Failed, Outcome, Went, Ended, StepGives}
+use Rattle.machine.specs.Steps.{side_op, operands, passed_on, performed, quiet, sends}
+
+-- the acknowledgements are compared in order with the side's own, and the first that differs in
+-- kind, site or value ends it
+abbrev pub compared : List ℕ → List ℕ → SideState → Outcome
+compared [] own s = Went (passed_on s)
+compared (word ∷ words) [] s = Went (passed_on s)
+compared (word ∷ words) (mine ∷ own) s = (if word == mine then compared words own s else Ended (Echo word mine))
+
+-- more acknowledgements are to come, or all are there
+abbrev pub heard_by : Bool → List ℕ → List ℕ → SideState → Outcome
+heard_by true words own s = Went (record { machine = s.machine; heard = words })
+heard_by false words own s = compared words own s
+
+-- an AWAIT, by what it meets; its own acknowledgements are those of the registers as they are now
+abbrev pub awaits : Meet → List ℕ → SideState → Outcome
+awaits (Got word) own s = let words = s.heard ++ word ∷ [] in heard_by (nat_lt (length words) (length own)) words own s
+awaits Closed own s = Ended PeerEnded
+awaits Plain own s = Went s
+awaits (Failed written) own s = Went s
+
+-- the request that an ACT makes of its operands
+abbrev pub act_request : Asks → Site → List ℕ → Request
+act_request AskPut site values = Put site (slice_index values 0)
+act_request AskExit site values = Exit site (slice_index values 0)
+
+-- how the side goes on after the world has answered
+abbrev pub answered : Request → Response → SideState → Outcome
+answered (Put site value) response s = Went (passed_on s)
+answered (Exit site value) response s = Ended (ExitEnd (value % 256))
+
+-- an ACT, by what it meets
+abbrev pub acts : Meet → Request → Asked → SideState → WorldState → StepGives
+acts (Failed written) request asked s w = record { outcome = Ended WriteFault; sent = []; world = stopped w; events = take written asked.events }
+acts Plain request asked s w = record { outcome = answered request asked.response s; sent = response_words request asked.response; world = asked.world; events = asked.events }
+acts (Got word) request asked s w = quiet w (Went s)
+acts Closed request asked s w = quiet w (Went s)
+
+-- what an instruction of the leading version does, one case for each
+abbrev pub lead_op : VersionOp → ℕ → SideState → WorldState → Meet → StepGives
+lead_op (Copied mid) line s w meet = quiet w (performed (act mid line s.machine) s)
+lead_op (Ask site args) line s w meet = sends w s (check_words site.0 (operands s args))
+lead_op (Await site args) line s w meet = quiet w (awaits meet (ack_words site.0 (operands s args)) s)
+lead_op (Act site asks args) line s w meet =
+    let request = act_request asks site (operands s args) in acts meet request (ask w request) s w
+-- the others stand in no leading version
+lead_op (Check site source) line s w meet = quiet w (Went s)
+lead_op (Ack site args) line s w meet = quiet w (Went s)
+lead_op (End source) line s w meet = quiet w (Went s)
+
+abbrev pub lead_at : Option VersionLine → SideState → WorldState → Meet → StepGives
+lead_at None s w meet = quiet w (Went s)
+lead_at (Some l) s w meet = lead_op l.op l.line s w meet
+
+-- one step of the leading side, with the world as it is and what the step meets
+unfoldable pub lead_next : MidProgram → SideState → WorldState → Meet → StepGives
+lead_next program s w meet = lead_at (side_op Lead program s) s w meet

@@ -1,0 +1,41 @@
+-- One step of the trailing side.
+use Rattle.std.specs.Prelude.{ℕ, Bool, true, false, List, [], ◌∷◌, Option, Some, None, ◌==◌, ◌%◌, if◌then◌else◌}
+use Rattle.srmt_base.specs.declared.side.Side.TheVariants.{Trail}
+use Rattle.srmt_base.specs.declared.word.Kind.TheVariants.{Check as CheckKind}
+use Rattle.srmt_base.specs.Word.{word_of}
+use Rattle.mid_code.specs.declared.program.MidProgram.{MidProgram}
+use Rattle.mid_code.specs.declared.version.VersionOp.{VersionOp}
+use Rattle.mid_code.specs.declared.version.VersionOp.TheVariants.{Copied, Ask, Await, Act, Check, Ack, End}
+use Rattle.mid_code.specs.declared.version.VersionLine.{VersionLine}
+use Rattle.mid_code.specs.Machine.{act, register}
+use Rattle.word_stream.specs.Exchange.{ack_words}
+use Rattle.world.specs.World.{WorldState}
+use Rattle.machine.specs.declared.thread_end.ThreadEnd.TheVariants.{Exit as ExitEnd, Mismatch, PeerEnded}
+use Rattle.machine.specs.Side.{SideState, Meet, Plain, Got, Closed, Failed, Outcome, Went, Ended, StepGives}
+use Rattle.machine.specs.Steps.{side_op, operands, passed_on, performed, quiet, sends}
+
+-- a CHECK, by what it meets: a word that differs from the side's own in kind, site or value ends it
+abbrev pub checks : Meet → ℕ → SideState → Outcome
+checks (Got word) own s = (if word == own then Went (passed_on s) else Ended (Mismatch word own))
+checks Closed own s = Ended PeerEnded
+checks Plain own s = Went s
+checks (Failed written) own s = Went s
+
+-- what an instruction of the trailing version does, one case for each
+abbrev pub trail_op : VersionOp → ℕ → SideState → WorldState → Meet → StepGives
+trail_op (Copied mid) line s w meet = quiet w (performed (act mid line s.machine) s)
+trail_op (Check site source) line s w meet = quiet w (checks meet (word_of CheckKind site.0 (register s.machine source)) s)
+trail_op (Ack site args) line s w meet = sends w s (ack_words site.0 (operands s args))
+trail_op (End source) line s w meet = quiet w (Ended (ExitEnd (register s.machine source % 256)))
+-- the others stand in no trailing version
+trail_op (Ask site args) line s w meet = quiet w (Went s)
+trail_op (Await site args) line s w meet = quiet w (Went s)
+trail_op (Act site asks args) line s w meet = quiet w (Went s)
+
+abbrev pub trail_at : Option VersionLine → SideState → WorldState → Meet → StepGives
+trail_at None s w meet = quiet w (Went s)
+trail_at (Some l) s w meet = trail_op l.op l.line s w meet
+
+-- one step of the trailing side, with what it meets; the world is the leading side's, and stays
+unfoldable pub trail_next : MidProgram → SideState → WorldState → Meet → StepGives
+trail_next program s w meet = trail_at (side_op Trail program s) s w meet

@@ -1,0 +1,92 @@
+ghost use Rattle.std.specs.Prelude.{◌≡◌, ℕ, ◌+◌, ◌^◌, ◌<◌, ◌≤◌, ◌⊎◌, true, false, List, [], ◌∷◌, ◌++◌, All, length};
+ghost use Rattle.srmt_base.specs.declared.side.Side.TheVariants.{Trail};
+ghost use Rattle.srmt_base.specs.declared.word.Kind.TheVariants.{Check};
+ghost use Rattle.srmt_base.specs.Word.{word_of};
+ghost use Rattle.mid_code.specs.Machine.{register};
+ghost use Rattle.world.specs.World.{WorldState};
+ghost use Rattle.machine.specs.Side.{Got};
+ghost use Rattle.machine.specs.Steps.{quiet};
+ghost use Rattle.machine.specs.Trailing.{checks};
+ghost use Rattle.machine.specs.Tried.{shown, Comes, Tries, TriesBy};
+ghost use Rattle.machine.specs.Fits.{FitsAfter, SideFits};
+
+use crate::link::Link;
+use crate::link_call::Taken;
+use crate::machine::Machine;
+use crate::steps::{perform, send_operands};
+use crate::thread_end::{Stepped, ThreadEnd};
+use mid_code::{Pair, VersionOp};
+use srmt_base::{Kind, Site, Word, pack};
+
+// Compares a word with the side's own.
+fn compare(m: &mut Machine, own: Word, word: Word) -> Stepped
+    requires { m.old.machine.top.place < 2 ^ 18 }
+    ensures { Comes result m.new (checks (Got word) own m.old) }
+{
+    if word != own {
+        return Stepped::Ended(ThreadEnd::Mismatch(word, own));
+    }
+    m.pass();
+    Stepped::Went
+}
+
+// Takes the next word, if one is there, and compares it with the side's own.
+fn check_word<L: Link>(m: &mut Machine, site: Site, source: u16, link: &mut L) -> Stepped
+    requires register { source < length m.old.machine.top.registers }
+    requires small { All (λ v. v < 2 ^ 44) m.old.machine.top.registers }
+    requires place { m.old.machine.top.place < 2 ^ 18 }
+    ensures tries { (w : WorldState) → TriesBy true false (λ meet. quiet w (checks meet (word_of Check site.0 (register m.old.machine source)) m.old)) m.old w result m.new w []
+        (shown (L.sent link.old) (L.taken link.old) (L.gone link.old) (L.asks link.old) (L.last link.old))
+        (shown (L.sent link.new) (L.taken link.new) (L.gone link.new) (L.asks link.new) (L.last link.new)) }
+    ensures made { L.made link.new ≡ L.made link.old }
+    ensures stays_gone { L.gone link.old ≡ true → L.gone link.new ≡ true }
+{
+    let own = pack(Kind::Check, site, m.register(source));
+    match link.take() {
+        Taken::NotYet => Stepped::NotYet,
+        Taken::Closed => Stepped::Ended(ThreadEnd::PeerEnded),
+        Taken::Word(word) => {
+            let stepped = compare(m, own, word);
+            stepped
+        }
+    }
+}
+
+/// Tries the next step of the trailing side. A step whose instruction takes a word asks the link
+/// once for it, one that may send asks once for room, before anything else, and any other asks
+/// nothing. The machine was started with `Side::Trail` and has not ended.
+pub fn trail_step<L: Link>(pair: &Pair, m: &mut Machine, link: &mut L) -> Stepped
+    requires fits { SideFits Trail pair.now m.old }
+    requires countable { length (L.sent link.old) < 2 ^ 62 }
+
+    // The world is the leading side's, and stays as it is.
+    ensures step { (w : WorldState) → Tries Trail pair.now m.old w result m.new w []
+        (shown (L.sent link.old) (L.taken link.old) (L.gone link.old) (L.asks link.old) (L.last link.old))
+        (shown (L.sent link.new) (L.taken link.new) (L.gone link.new) (L.asks link.new) (L.last link.new)) }
+    ensures fits { FitsAfter result Trail pair.now m.new }
+    ensures made { L.made link.new ≡ L.made link.old }
+    ensures stays_gone { L.gone link.old ≡ true → L.gone link.new ≡ true }
+{
+    let _pair = pair.classed();
+    let Some(line) = pair.trailing_at(m.function, m.place) else {
+        unreachable!()
+    };
+    match &line.op {
+        VersionOp::Copied(mid) => {
+            let stepped = perform(m, *mid, line.line);
+            stepped
+        }
+        VersionOp::Check { site, source } => {
+            let stepped = check_word(m, *site, *source, link);
+            stepped
+        }
+        VersionOp::Ack { site, args } => {
+            let stepped = send_operands(m, Kind::Ack, *site, args, link);
+            stepped
+        }
+        VersionOp::End { source } => {
+            Stepped::Ended(ThreadEnd::Exit((m.register(*source) % 256) as u8))
+        }
+        VersionOp::Ask { .. } | VersionOp::Await { .. } | VersionOp::Act { .. } => unreachable!(),
+    }
+}

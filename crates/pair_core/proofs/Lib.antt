@@ -1,0 +1,17 @@
+pub mod Prefixes
+pub mod Groups
+pub mod Steps
+pub mod Exchanges
+pub mod Ideals
+pub mod Lead
+pub mod Trail
+pub mod Bounds
+pub mod Finding
+pub mod Duos
+pub mod Standing
+pub mod Sounds
+pub mod Answering
+pub mod Measure
+pub mod Lowering
+pub mod Reaching
+pub mod Faults

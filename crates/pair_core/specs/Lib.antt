@@ -1,0 +1,6 @@
+pub mod Verdict
+pub mod History
+pub mod Fit
+pub mod Duo
+pub mod Laws
+pub mod Answer

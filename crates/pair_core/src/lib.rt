@@ -1,0 +1,12 @@
+//! Both sides of a pair together, one event at a time.
+//!
+//! The crate says what a run of the two sides is, whatever the order of their steps: what each has
+//! taken is a prefix of what the other has sent. It gives the verdict on the two ends, and the law
+//! that holds over every order. It stands on the steps of `machine`.
+#![tactic(auto)]
+
+mod laws;
+mod verdict;
+
+pub use laws::over_every_schedule;
+pub use verdict::{Ran, Report, Verdict};

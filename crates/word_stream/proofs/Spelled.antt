@@ -1,0 +1,72 @@
+-- The words of each request, and the request that words spell.
+use Rattle.std.proofs.Common.{◌≡◌, ◌<◌, ◌^◌, ℕ, [], ◌∷◌, ◌⊎◌, inl, inr, refl, sym, subst, arith}
+use Rattle.std.specs.Prelude.{All}
+use Rattle.srmt_base.specs.declared.word.Site.{Site}
+use Rattle.srmt_base.specs.declared.word.Kind.TheVariants.{Check}
+use Rattle.srmt_base.specs.Word.{word_of}
+use Rattle.word_stream.specs.declared.request.Request.{Request}
+use Rattle.word_stream.specs.declared.request.Request.TheVariants.{Put, Exit}
+use Rattle.word_stream.specs.declared.request.Response.{Response}
+use Rattle.word_stream.specs.declared.request.Response.TheVariants.{Done}
+use Rattle.word_stream.specs.declared.table.RequestKind.{RequestKind}
+use Rattle.word_stream.specs.declared.table.RequestKind.TheVariants.{Put as AskPut, Exit as AskExit}
+use Rattle.word_stream.specs.Exchange.{request_site, operands_of, response_words, exchange}
+use Rattle.word_stream.specs.Reading.{kind_of}
+
+-- a request with one operand
+pub record Spells (q : Request) (site value : ℕ) : Type 0 where
+  pub site_so : request_site q ≡ site
+  pub operand : operands_of q ≡ value ∷ []
+
+-- one case for each request
+pub spells_put : (site : Site) (value : ℕ) → Spells (Put site value) site.0 value
+unfolding operands_of request_site
+spells_put site value = record { site_so = refl; operand = refl }
+
+pub spells_exit : (site : Site) (value : ℕ) → Spells (Exit site value) site.0 value
+unfolding operands_of request_site
+spells_exit site value = record { site_so = refl; operand = refl }
+
+pub spells_one : (q : Request) → (value : ℕ) × Spells q (request_site q) value
+unfolding operands_of request_site
+spells_one (Put site value) = (value, record { site_so = refl; operand = refl })
+spells_one (Exit site value) = (value, record { site_so = refl; operand = refl })
+
+-- the request of a kind
+abbrev pub request_of : RequestKind → ℕ → ℕ → Request
+request_of AskPut site value = Put (record { 0 = site }) value
+request_of AskExit site value = Exit (record { 0 = site }) value
+
+pub request_of-spelled : (q : Request) → request_of (kind_of q) (request_site q) (spells_one q).0 ≡ q
+unfolding kind_of request_site spells_one
+request_of-spelled (Put site value) = refl
+request_of-spelled (Exit site value) = refl
+
+-- a response of a request without a result
+pub no_words : (q : Request) (r : Response) → response_words q r ≡ []
+unfolding response_words
+no_words q Done = refl
+
+pub done_alone : (r : Response) → Done ≡ r
+done_alone Done = refl
+
+pub exchange-one : (q : Request) (r : Response) (site value : ℕ) → Spells q site value → exchange q r ≡ word_of Check site value ∷ []
+exchange-one q r site value s = rw (no_words q r, s.site_so, s.operand) refl
+
+pub small-one : (q : Request) (site value : ℕ) → Spells q site value → All (λ v. v < 2 ^ 44) (operands_of q) → value < 2 ^ 44
+small-one q site value s all =
+    let here : All (λ v. v < 2 ^ 44) (value ∷ []) = subst (All (λ v. v < 2 ^ 44)) s.operand all in
+    here 0 0 (omega arith)
+
+-- of either kind
+pub spells_either : (q : Request) (site : Site) (value : ℕ) → (q ≡ Put site value) ⊎ (q ≡ Exit site value) → Spells q site.0 value
+spells_either q site value (inl is) = subst (λ r. Spells r site.0 value) (sym is) (spells_put site value)
+spells_either q site value (inr is) = subst (λ r. Spells r site.0 value) (sym is) (spells_exit site value)
+
+pub kind_put : (site : Site) (value : ℕ) → kind_of (Put site value) ≡ AskPut
+unfolding kind_of
+kind_put site value = refl
+
+pub kind_exit : (site : Site) (value : ℕ) → kind_of (Exit site value) ≡ AskExit
+unfolding kind_of
+kind_exit site value = refl
