@@ -15,3 +15,4 @@ pub mod Measure
 pub mod Lowering
 pub mod Reaching
 pub mod Faults
+pub mod Counting

@@ -4,3 +4,5 @@ pub mod Fit
 pub mod Duo
 pub mod Laws
 pub mod Answer
+pub mod Turns
+pub mod View
