@@ -7,7 +7,7 @@ use Rattle.srmt_base.specs.declared.trap.SourceEnd.TheVariants.{Trap as TrapEnd}
 use Rattle.srmt_base.specs.declared.limits.Limits.{Limits}
 use Rattle.mid_code.specs.declared.program.MidProgram.{MidProgram}
 use Rattle.mid_code.specs.Machine.{Machine}
-use Rattle.mid_code.specs.Meaning.{started}
+use Rattle.mid_code.specs.Start.{started_machine}
 use Rattle.word_stream.specs.declared.request.Request.{Request}
 use Rattle.word_stream.specs.declared.request.Response.{Response}
 use Rattle.word_stream.specs.Exchange.{is_guarded, checks_of, acks_of, response_words, exchange}
@@ -36,7 +36,7 @@ pub record IdealState : Type 0 where
 -- at the start `main` is entered and nothing was asked
 abbrev pub ideal_opening : MidProgram → List ℕ → Limits → IdealState
 ideal_opening program input limits = record {
-  place = Here (started program);
+  place = Here (started_machine program limits);
   world = opened program input limits;
   words = [];
   echoes = [];

@@ -28,15 +28,17 @@ pub data Wants : Type 0 where
 abbrev pub next_site : MidProgram → Machine → ℕ
 next_site program m = site_at program m.top.function m.top.place (function_at program m.top.function)
 
--- what an instruction that reaches the outside asks of the world, one case for each
-abbrev pub request_by : ℕ → Access → Request
-request_by site (Puts value) = Put (site_of site) value
-request_by site (Exits value) = Exit (site_of site) value
+-- what an instruction that reaches memory or the outside asks of the world. A pair has programs of
+-- the first form alone yet, and no other access occurs in them
+abbrev pub wants_access : ℕ → Access → Wants
+wants_access site (Puts value) = Requests (Put (site_of site) value)
+wants_access site (Exits value) = Requests (Exit (site_of site) value)
+wants_access site _ = Lost
 
 abbrev pub wants_by : ℕ → Does → Wants
 wants_by site (Goes next) = Runs next
 wants_by site (Traps trap line) = Dies trap line
-wants_by site (Reaches access) = Requests (request_by site access)
+wants_by site (Reaches access line) = wants_access site access
 wants_by site Nowhere = Lost
 
 unfoldable pub wants : MidProgram → Machine → Wants
@@ -47,16 +49,16 @@ pub data Resumed : Type 0 where
   Back : (machine : Machine) → Resumed
   Over : (end : SourceEnd) → Resumed
 
--- one case for each kind of access
 abbrev pub resumed : Access → Machine → Response → Resumed
 resumed (Puts value) m response = Back (passed m)
 resumed (Exits value) m response = Over (ExitEnd (value % 256))
+resumed _ m response = Back m
 
 -- a machine that asks nothing stays as it is
 abbrev pub resume_by : Does → Machine → Response → Resumed
 resume_by (Goes next) m response = Back m
 resume_by (Traps trap line) m response = Back m
-resume_by (Reaches access) m response = resumed access m response
+resume_by (Reaches access line) m response = resumed access m response
 resume_by Nowhere m response = Back m
 
 unfoldable pub resume : MidProgram → Machine → Response → Resumed
