@@ -25,3 +25,5 @@ pub mod Smallness
 pub mod Trapping
 pub mod Counting
 pub mod Exactness
+pub mod Worked
+pub mod Rooms
