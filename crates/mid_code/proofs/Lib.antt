@@ -1,3 +1,4 @@
+pub mod FirstLemmas
 pub mod RuleLemmas
 pub mod KindLemmas
 pub mod Passing
