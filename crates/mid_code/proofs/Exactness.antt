@@ -21,6 +21,7 @@ use Rattle.mid_code.specs.Laws.{CanRun}
 use Rattle.mid_code.proofs.Naming.{whole}
 use Rattle.mid_code.proofs.Starting.{main_part}
 use Rattle.mid_code.proofs.Trapping.{is_counted, IsOther, uncounted, read_other, write_other, begin_store}
+use Rattle.mid_code.proofs.Placing.{HasCells, cells_after, store_forward, store_back}
 use Rattle.mid_code.proofs.Counting.{Quiet, Counted, AfterCount, IfGoesOn, step_goes, does_counted, at_least_one}
 
 -- what was counted of a part and what is left to it make up its limits
@@ -107,7 +108,7 @@ no_other t trap line told other e =
     let h : is_counted trap ≡ false = subst EndsOther e other in
     true≢false (sym told ∙ h)
 
-module _ (program : MidProgram) (limits : Limits) (turns : Part → ℕ) (s : State) (balanced : Balanced program limits turns s) where
+module _ (program : MidProgram) (limits : Limits) (turns : Part → ℕ) (s : State) (balanced : Balanced program limits turns s) (cells : HasCells limits.cells s.memory) where
   -- where the trap of activations comes
   depth_forward : (line : ℕ) (c : Counting) (d : Does) → Counted program s.machine c d → step_by program d s ≡ Ends (TrapEnd Depth line) [] → (part : Part) × (c ≡ OneActivation part line) × (live_of program part (activations s.machine) ≡ limits.depth)
   depth_forward line Uncounted d h e = absurd (no_other (step_by program d s) Depth line refl (quiet_other program s d h) e)
@@ -169,6 +170,7 @@ module _ (program : MidProgram) (limits : Limits) (turns : Part → ℕ) (s : St
     depth_within = λ part. omega (arith, balanced.depth_left part);
     depth_trap = λ line. (depth_forward line (next_counting program s.machine) (does program s.machine) (does_counted program s.machine), depth_back line (next_counting program s.machine) (does program s.machine) (does_counted program s.machine));
     turns_trap = λ line. (turns_forward line (next_counting program s.machine) (does program s.machine) (does_counted program s.machine), turns_back line (next_counting program s.machine) (does program s.machine) (does_counted program s.machine));
+    store_trap = λ line. (store_forward limits.cells program s line cells, store_back limits.cells program s line cells);
   }
 
 -- at the start the turn and the activation of `main` are counted
@@ -194,3 +196,4 @@ counts_exactly program input limits can steps s events e =
     let start = started program input limits in
     let balanced = balanced_run program limits steps (λ part. one_if part Protected) start (balanced_started program input limits can) in
     exact program limits (λ part. turns_so_far program part steps start) s (subst (IfBalanced program limits (λ part. turns_so_far program part steps start)) e balanced)
+    (cells_after program input limits steps s events e)

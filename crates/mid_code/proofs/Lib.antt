@@ -24,6 +24,7 @@ pub mod Bounding
 pub mod Smallness
 pub mod Trapping
 pub mod Counting
+pub mod Placing
 pub mod Exactness
 pub mod Worked
 pub mod Rooms

@@ -7,12 +7,9 @@ use Rattle.srmt_base.specs.declared.op.Op.TheVariants.{Add, Sub, Lt}
 use Rattle.srmt_base.specs.declared.trap.Trap.TheVariants.{Turns, Depth, DeadObject, ReadOnly, Store as StoreTrap, NullPointer, NotAFunction}
 use Rattle.srmt_base.specs.declared.trap.SourceEnd.TheVariants.{Exit as ExitEnd, Trap as TrapEnd}
 use Rattle.srmt_base.specs.declared.ty.Ty.TheVariants.{Int}
-use Rattle.mid_code.specs.declared.program.RegisterKind.{RegisterKind}
 use Rattle.mid_code.specs.declared.program.RegisterKind.TheVariants.{Number, Address}
-use Rattle.mid_code.specs.declared.program.MidFunction.{MidFunction}
 use Rattle.mid_code.specs.declared.program.MidLine.{MidLine}
 use Rattle.mid_code.specs.declared.program.MidProgram.{MidProgram}
-use Rattle.mid_code.specs.declared.program.Static.{Static}
 use Rattle.mid_code.specs.declared.registers.Registers.{Registers}
 use Rattle.mid_code.specs.declared.mid.Mid.{Mid}
 use Rattle.mid_code.specs.declared.mid.Mid.TheVariants.{Const, Move, Arith, GlobAddr, Load, Store, VLoad, VStore, Open, Close, Jump, JumpZ, Turn, Call, CallPtr, Return, Put, Get, Exit}
@@ -35,9 +32,9 @@ counting = record {
     kinds = replicate 3 Number;
     line = 1;
     code =
-      line 2 (Const 0 0) ∷ line 2 (Const 1 0) ∷ line 2 (Move 0 1) ∷ line 3 Turn ∷ line 3 (Move 1 0) ∷ line 3 (Const 2 3)
-      ∷ line 3 (Arith Lt Int 1 1 2) ∷ line 3 (JumpZ 1 13) ∷ line 3 (Move 1 0) ∷ line 3 (Const 2 1) ∷ line 3 (Arith Add Int 1 1 2)
-      ∷ line 3 (Move 0 1) ∷ line 3 (Jump 3) ∷ line 4 (Move 1 0) ∷ line 4 (Exit 1) ∷ [];
+        line 2 (Const 0 0) ∷ line 2 (Const 1 0) ∷ line 2 (Move 0 1) ∷ line 3 Turn ∷ line 3 (Move 1 0) ∷ line 3 (Const 2 3)
+        ∷ line 3 (Arith Lt Int 1 1 2) ∷ line 3 (JumpZ 1 13) ∷ line 3 (Move 1 0) ∷ line 3 (Const 2 1) ∷ line 3 (Arith Add Int 1 1 2)
+        ∷ line 3 (Move 0 1) ∷ line 3 (Jump 3) ∷ line 4 (Move 1 0) ∷ line 4 (Exit 1) ∷ [];
   } ∷ [];
 }
 
@@ -68,6 +65,7 @@ one r = record { count = 1; numbers = r ∷ replicate 15 0; room = refl; within 
     all_zero zero k = refl
     all_zero (suc n) zero = refl
     all_zero (suc n) (suc k) = all_zero n k
+
     behind : (k : ℕ) → 1 ≤ k → slice_index (r ∷ replicate 15 0) k ≡ 0
     behind zero h = absurd (omega arith)
     behind (suc k) h = all_zero 15 k
@@ -81,16 +79,16 @@ nested = record {
   main_statics = [];
   binary_statics = [];
   functions =
-    record {
-      ty = 0;
-      kinds = replicate 3 Number;
-      line = 1;
-      code =
-        line 1 (JumpZ 0 7) ∷ line 1 (Const 1 1) ∷ line 1 (Arith Sub Int 2 0 1) ∷ line 1 (Call 2 1 (one 2)) ∷ line 1 (Const 1 1)
-        ∷ line 1 (Arith Add Int 1 1 2) ∷ line 1 (Return 1) ∷ line 1 (Const 1 0) ∷ line 1 (Return 1) ∷ [];
-    }
-    ∷ record { ty = 1; kinds = Number ∷ []; line = 2; code = line 2 (Const 0 2) ∷ line 2 (Call 0 1 (one 0)) ∷ line 2 (Exit 0) ∷ [] }
-    ∷ [];
+      record {
+        ty = 0;
+        kinds = replicate 3 Number;
+        line = 1;
+        code =
+            line 1 (JumpZ 0 7) ∷ line 1 (Const 1 1) ∷ line 1 (Arith Sub Int 2 0 1) ∷ line 1 (Call 2 1 (one 2)) ∷ line 1 (Const 1 1)
+            ∷ line 1 (Arith Add Int 1 1 2) ∷ line 1 (Return 1) ∷ line 1 (Const 1 0) ∷ line 1 (Return 1) ∷ [];
+      }
+      ∷ record { ty = 1; kinds = Number ∷ []; line = 2; code = line 2 (Const 0 2) ∷ line 2 (Call 0 1 (one 0)) ∷ line 2 (Exit 0) ∷ [] }
+      ∷ [];
 }
 
 -- `main` and three activations of `f`
@@ -116,14 +114,14 @@ dangling = record {
   main_statics = [];
   binary_statics = [];
   functions =
-    record {
-      ty = 0;
-      kinds = Address ∷ Number ∷ [];
-      line = 1;
-      code = line 1 (Open 0 1) ∷ line 1 (Const 1 5) ∷ line 1 (Store 0 1) ∷ line 1 (Close 0) ∷ line 1 (Return 0) ∷ [];
-    }
-    ∷ record { ty = 1; kinds = Address ∷ Number ∷ []; line = 2; code = line 3 (Call 0 1 none) ∷ line 4 (Load 1 0) ∷ line 4 (Exit 1) ∷ [] }
-    ∷ [];
+      record {
+        ty = 0;
+        kinds = Address ∷ Number ∷ [];
+        line = 1;
+        code = line 1 (Open 0 1) ∷ line 1 (Const 1 5) ∷ line 1 (Store 0 1) ∷ line 1 (Close 0) ∷ line 1 (Return 0) ∷ [];
+      }
+      ∷ record { ty = 1; kinds = Address ∷ Number ∷ []; line = 2; code = line 3 (Call 0 1 none) ∷ line 4 (Load 1 0) ∷ line 4 (Exit 1) ∷ [] }
+      ∷ [];
 }
 
 dead : exec dangling 100 (started dangling [] (limits 9 9)) ≡ Ended (TrapEnd DeadObject 4) []
