@@ -151,6 +151,6 @@ short program input limits can =
       ended = ended.ended;
       few_events = omega (arith, ended.few, few);
       going = λ made t so_far e.
-        let on : GoesOn program made (left_to_go program s.machine) (Running t so_far) = subst (GoesOn program made (left_to_go program s.machine)) e (goes_on program can.valid made s fits) in
-        (omega (arith, on.0), omega (arith, on.1, on.0, few));
+          let on : GoesOn program made (left_to_go program s.machine) (Running t so_far) = subst (GoesOn program made (left_to_go program s.machine)) e (goes_on program can.valid made s fits) in
+          (omega (arith, on.0), omega (arith, on.1, on.0, few));
     }

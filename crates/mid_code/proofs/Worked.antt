@@ -202,14 +202,14 @@ apart = record {
   main_statics = [];
   binary_statics = [];
   functions =
-    record { ty = 0; kinds = Number ∷ []; line = 1; code = line 1 (Call 0 2 none) ∷ line 1 (Exit 0) ∷ [] }
-    ∷ record {
-      ty = 0;
-      kinds = Address ∷ Number ∷ [];
-      line = 2000001;
-      code = line 2000001 (Open 0 1) ∷ line 2000001 (VLoad 1 0) ∷ line 2000001 (Close 0) ∷ line 2000001 (Return 1) ∷ [];
-    }
-    ∷ [];
+      record { ty = 0; kinds = Number ∷ []; line = 1; code = line 1 (Call 0 2 none) ∷ line 1 (Exit 0) ∷ [] }
+      ∷ record {
+        ty = 0;
+        kinds = Address ∷ Number ∷ [];
+        line = 2000001;
+        code = line 2000001 (Open 0 1) ∷ line 2000001 (VLoad 1 0) ∷ line 2000001 (Close 0) ∷ line 2000001 (Return 1) ∷ [];
+      }
+      ∷ [];
 }
 
 each_part : exec apart 100 (started apart [] (limits 1 1)) ≡ Ended (ExitEnd 0) (PortRead 134217728 0 ∷ ExitEvent 0 ∷ [])
