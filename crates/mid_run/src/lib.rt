@@ -5,6 +5,7 @@
 //! `srmt_outside`. Nothing after the start takes memory.
 #![tactic(auto)]
 
+mod frames;
 mod run;
 
 pub use run::MidRun;
