@@ -1,3 +1,9 @@
+pub mod Keeping
 pub mod Runs
-pub mod Fitting
 pub mod Fetching
+pub mod RegistersLemmas
+pub mod Values
+pub mod Standing
+pub mod Flowing
+pub mod Naming
+pub mod Acting

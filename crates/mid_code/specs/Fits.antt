@@ -1,12 +1,17 @@
--- A machine that stands within its program.
-use Rattle.std.specs.Prelude.{ℕ, ◌≡◌, ◌^◌, ◌<◌, length, Some}
-use Rattle.std.specs.Prelude.{ℕ, All}
+-- A run that stands within its program: what every state of a run of a valid program is like.
+use Rattle.std.specs.Prelude.{ℕ, ◌≡◌, ◌+◌, ◌^◌, ◌<◌, ◌≤◌, List, [], ◌∷◌, length, map, Some, All}
+use Rattle.srmt_base.specs.Objects.{Object, Objects}
+use Rattle.srmt_base.specs.Memory.{Memory, Part, Protected, Binary, first_number, last_number}
 use Rattle.mid_code.specs.declared.program.MidProgram.{MidProgram}
 use Rattle.mid_code.specs.declared.program.MidFunction.{MidFunction}
-use Rattle.mid_code.specs.declared.mid.Mid.{Mid}
-use Rattle.mid_code.specs.declared.mid.Mid.TheVariants.{Const, Conv, Put, Exit}
 use Rattle.mid_code.specs.Program.{function_at}
-use Rattle.mid_code.specs.Machine.{Activation, Machine}
+use Rattle.mid_code.specs.Flow.{found_at}
+use Rattle.mid_code.specs.Machine.{Activation, Machine, activations, live_of, budget_of}
+use Rattle.mid_code.specs.Meaning.{State}
+
+-- a number of 44 bits, as registers and cells hold them
+abbrev pub IsValue : ℕ → Type 0
+IsValue v = v < 2 ^ 44
 
 -- the activation has an instruction next, and all registers of its function
 pub record IsWithin (program : MidProgram) (a : Activation) : Type 0 where
@@ -14,15 +19,43 @@ pub record IsWithin (program : MidProgram) (a : Activation) : Type 0 where
   pub found : function_at program a.function ≡ Some code
   pub place : a.place < length code.code
   pub registers : length a.registers ≡ length code.kinds
-  -- a register holds a number of 44 bits
-  pub each : All (λ v. v < 2 ^ 44) a.registers
+  pub each : All IsValue a.registers
+  -- its objects are those that are open at its place
+  pub opened : found_at code.code a.place ≡ Some (map (λ o. o.place) a.opened)
 
-abbrev pub Fits : MidProgram → Machine → Type 0
-Fits program m = IsWithin program m.top
+-- the activations below one: each stands within, and has the register that takes the result of the one above it; the
+-- last is that of `main`
+abbrev pub AreBelow : MidProgram → Activation → List Activation → Type 0
+AreBelow program above [] = above.function ≡ program.main
+AreBelow program above (caller ∷ rest) = (above.into < length caller.registers) × IsWithin program caller × AreBelow program caller rest
 
--- each register that an instruction names is one of so many, one case for each
-abbrev pub AreWithin : ℕ → Mid → Type 0
-AreWithin count (Const target value) = target < count
-AreWithin count (Conv from to target source) = (target < count) × (source < count)
-AreWithin count (Put source) = source < count
-AreWithin count (Exit source) = source < count
+-- what is left to a part, and its live activations with it, are no more than fitting limits allow
+pub record IsLeft (program : MidProgram) (part : Part) (m : Machine) : Type 0 where
+  pub turns : (budget_of part m).turns ≤ 10 ^ 12
+  pub depth : live_of program part (activations m) + (budget_of part m).depth ≤ 1000
+
+-- the cells of an object hold values
+abbrev pub HoldsValues : Object → Type 0
+HoldsValues object = All IsValue object.cells
+
+-- the numbers of a part are its own, and the cells of its objects hold values
+pub record IsPart (part : Part) (objects : Objects) : Type 0 where
+  pub first : first_number part ≤ objects.fresh
+  pub last : objects.fresh ≤ last_number part + 1
+  pub values : All HoldsValues objects.live
+
+-- the machine stands within its program
+pub record IsMachine (program : MidProgram) (m : Machine) : Type 0 where
+  pub top : IsWithin program m.top
+  pub below : AreBelow program m.top m.below
+  pub protected_left : IsLeft program Protected m
+  pub binary_left : IsLeft program Binary m
+
+pub record IsMemory (memory : Memory) : Type 0 where
+  pub protected : IsPart Protected memory.protected
+  pub binary : IsPart Binary memory.binary
+
+pub record Fits (program : MidProgram) (s : State) : Type 0 where
+  pub machine : IsMachine program s.machine
+  pub memory : IsMemory s.memory
+  pub input : All (λ byte. byte < 256) s.input

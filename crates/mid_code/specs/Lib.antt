@@ -1,8 +1,14 @@
 pub mod Program
+pub mod Registers
+pub mod Operands
+pub mod Flow
+pub mod Rules
 pub mod Valid
 pub mod Machine
 pub mod Classes
 pub mod Versions
 pub mod Pairs
 pub mod Fits
+pub mod Start
 pub mod Meaning
+pub mod Keeps

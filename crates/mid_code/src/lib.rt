@@ -12,12 +12,16 @@ mod laws;
 mod mid;
 mod pair;
 mod program;
+mod refusal;
+mod registers;
 mod version;
 
 pub use access::Access;
 pub use class::Class;
-pub use laws::{is_determined, is_never_stuck};
+pub use laws::is_determined;
 pub use mid::Mid;
 pub use pair::{Classed, Pair};
 pub use program::{FunType, MidFunction, MidLine, MidProgram, RegisterKind, Static};
+pub use refusal::MidRefusal;
+pub use registers::Registers;
 pub use version::{Asks, Version, VersionLine, VersionOp};

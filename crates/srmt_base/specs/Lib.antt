@@ -7,3 +7,4 @@ pub mod Trap
 pub mod Types
 pub mod Word
 pub mod Objects
+pub mod Memory

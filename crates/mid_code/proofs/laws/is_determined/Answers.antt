@@ -3,4 +3,4 @@ use Rattle.mid_code.proofs.Runs.{one_end}
 use Rattle.mid_code.proofs.laws.is_determined.Goals as goal
 
 pub returns : goal.returns
-returns c = λ program input limits es fs e f a b. one_end program (started program) es fs e f a b
+returns c = λ program input limits es fs e f a b. one_end program (started program input limits) es fs e f a b
