@@ -44,6 +44,13 @@ impl Store {
         })
     }
 
+    /// The least number that a new object may have.
+    pub fn fresh(&self) -> u64
+        ensures { result ≡ self.now.fresh }
+    {
+        self.fresh
+    }
+
     /// Begins an object of zeros behind all others. The answer is `Store` exactly where the number is
     /// below `first` or not above each number added before, or where more cells than the store was
     /// started with would live.
@@ -52,6 +59,9 @@ impl Store {
         ensures ok { OnOk result (add_of self.old number cells read_only ≡ Ok self.new) }
         ensures trap { IfErr result (λ trap. add_of self.old number cells read_only ≡ Err trap) }
         ensures err { OnErr result (self.new ≡ self.old) }
+
+        // Each object has a cell.
+        ensures few { OnOk result (length self.new.live ≤ self.new.budget) }
     {
         let used = self.cells.len();
         let room = self.budget as usize - used;
@@ -112,6 +122,7 @@ impl Store {
         ensures live { result ≡ is_live self.old number }
         ensures ended { self.new ≡ end_of self.old number }
         ensures unchanged { IsFalse result → self.new ≡ self.old }
+        ensures one { length self.old.live ≤ length self.new.live + 1 }
     {
         let Some(at) = newest_or_place(&self.rows, u64::from(number)) else {
             return false;

@@ -5,12 +5,13 @@ use Rattle.std.proofs.lemmas.List.{length-take, length-take-le, length-drop, len
 use Rattle.std.proofs.Math.Seq.{take-set-lt}
 use Rattle.std.proofs.lemmas.List.Sums.{sum_by-cons}
 use Rattle.std.proofs.lemmas.List.Elements.{All-set, All-take, All-append, All-replicate}
-use Rattle.mid_run.specs.Draft.{Activation, Budget, Machine, Opened, given, given_object, passed_close, part_if, budget_of, leaves, entered, activation_of, register, Goes}
+use Rattle.srmt_base.specs.Memory.{part_if}
+use Rattle.mid_code.specs.Machine.{Activation, Budget, Machine, Opened, given, given_object, passed_close, budget_of, leaves, entered, register, Goes}
 use Rattle.mid_run.specs.declared.frames.Line.{Line}
 use Rattle.mid_run.specs.declared.frames.Budgets.{Budgets}
 use Rattle.mid_run.specs.declared.frames.Left.{Left}
 use Rattle.mid_run.specs.declared.frames.Begun.{Begun}
-use Rattle.mid_run.specs.Kept.{activation_in, opened_of, machine_in, AreStacked, AreKept, open_count, left_of, left_at, with_left, TakesResult}
+use Rattle.mid_run.specs.Kept.{activation_in, opened_of, machine_in, AreStacked, AreKept, open_count, left_of, left_at, with_left, fresh, TakesResult}
 
 -- a part of the first n of a row
 part_take : {A : Type 0} (from long n : ℕ) (xs : List A) → from + long ≤ n → take long (drop from (take n xs)) ≡ take long (drop from xs)
@@ -263,7 +264,7 @@ machine-entered true top below budgets callee = refl
 machine-entered false top below budgets callee = refl
 
 -- the machine after a function is entered
-pub entered-rows : (protected : Bool) (rs : List ℕ) (os : List Begun) (top : Line) (below : List Line) (budgets : Budgets) (function count into : ℕ) (args : List ℕ) → AreStacked (length rs) (length os) (top ∷ reverse below) → length args ≤ count → All (λ r. r < top.count) args → machine_in (rs ++ map (λ r. slice_index rs (top.base + r)) args ++ replicate (count - length args) 0) os (record { function = function; into = into; count = count; place = 0; base = length rs; floor = length os; held = 0 }) (below ++ record top { place = top.place + 1 } ∷ []) (with_left protected (record { turns = (left_at protected budgets).turns - 1; depth = (left_at protected budgets).depth - 1 }) budgets) ≡ entered (part_if protected) (activation_of function count into (map (register (machine_in rs os top below budgets)) args)) (machine_in rs os top below budgets)
+pub entered-rows : (protected : Bool) (rs : List ℕ) (os : List Begun) (top : Line) (below : List Line) (budgets : Budgets) (function count into : ℕ) (args : List ℕ) → AreStacked (length rs) (length os) (top ∷ reverse below) → length args ≤ count → All (λ r. r < top.count) args → machine_in (rs ++ map (λ r. slice_index rs (top.base + r)) args ++ replicate (count - length args) 0) os (record { function = function; into = into; count = count; place = 0; base = length rs; floor = length os; held = 0 }) (below ++ record top { place = top.place + 1 } ∷ []) (with_left protected (record { turns = (left_at protected budgets).turns - 1; depth = (left_at protected budgets).depth - 1 }) budgets) ≡ entered (part_if protected) (fresh function count into (map (register (machine_in rs os top below budgets)) args)) (machine_in rs os top below budgets)
 entered-rows protected rs os top below budgets function count into args laid few each =
     let values : List ℕ = map (λ r. slice_index rs (top.base + r)) args in
     let zeros : List ℕ = replicate (count - length args) 0 in

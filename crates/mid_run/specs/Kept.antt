@@ -1,6 +1,6 @@
 -- How the live activations of a machine are kept in flat rows.
 use Rattle.std.specs.Prelude.{◌≡◌, ℕ, ◌+◌, ◌-◌, ◌*◌, ◌^◌, ◌<◌, ◌≤◌, ◌==◌, List, [], ◌∷◌, ◌++◌, length, map, take, drop, reverse, replicate, slice_index, sum_by, slice_set, All, Bool, true, false, Option, Some, None}
-use Rattle.mid_run.specs.Draft.{Opened, Activation, Budget, Machine}
+use Rattle.mid_code.specs.Machine.{Opened, Activation, Budget, Machine}
 use Rattle.mid_run.specs.declared.frames.Line.{Line}
 use Rattle.mid_run.specs.declared.frames.Left.{Left}
 use Rattle.mid_run.specs.declared.frames.Budgets.{Budgets}
@@ -70,6 +70,11 @@ pub record AreKept (limit room : ℕ) (registers : List ℕ) (objects : List Beg
   pub registers_fit : 1024 * limit ≤ register_room
   pub objects_fit : room ≤ object_room
   pub lines_fit : limit ≤ line_room
+
+-- an activation of a function with so many registers, as it begins
+abbrev pub fresh : ℕ → ℕ → ℕ → List ℕ → Activation
+fresh function count into values =
+    record { function = function; place = 0; registers = values ++ replicate (count - length values) 0; opened = []; into = into }
 
 -- the number of the newest open object, if one is open
 abbrev pub newest_number : List Opened → Option ℕ

@@ -1,5 +1,2 @@
-pub mod Progress
-pub mod View
-pub mod Acts
-pub mod Draft
 pub mod Kept
+pub mod Acts

@@ -1,6 +1,7 @@
 ghost use Rattle.std.specs.Prelude.{◌≡◌, ℕ, ◌+◌, ◌-◌, ◌^◌, ◌<◌, ◌≤◌, List, [], ◌∷◌, ◌++◌, Option, Some, None, length, map, replicate, slice_index, slice_set, IfOk, All, vec_len, vec_capacity};
-ghost use Rattle.mid_run.specs.Draft.{Goes, part_if, budget_of, with_budget, passed, moved_to, given, given_object, passed_close, activation_of, entered, leaves, register};
-ghost use Rattle.mid_run.specs.Kept.{open_count, newest_number, TakesResult};
+ghost use Rattle.srmt_base.specs.Memory.{part_if};
+ghost use Rattle.mid_code.specs.Machine.{Goes, budget_of, with_budget, passed, moved_to, given, given_object, passed_close, entered, leaves, register};
+ghost use Rattle.mid_run.specs.Kept.{open_count, newest_number, fresh, left_of, TakesResult};
 
 use std::alloc::{AllocError, Global};
 use std::marker::Model;
@@ -101,6 +102,43 @@ impl Model for Frames {
 }
 
 impl Frames {
+    /// Takes the memory for all activations that the budgets allow, and for `room` open objects. One
+    /// function with `count` registers has begun.
+    pub(crate) fn start(
+        alloc: Global,
+        function: u16,
+        count: u16,
+        budgets: Budgets,
+        room: u32,
+    ) -> Result<Self, AllocError>
+        requires count { count ≤ 1024 }
+        requires depth { budgets.protected.depth + budgets.binary.depth + 1 ≤ 2048 }
+        requires room { room ≤ 2 ^ 22 }
+        ensures machine { IfOk result (λ f. f.machine ≡ record { top = fresh function count 0 []; below = []; protected = left_of budgets.protected; binary = left_of budgets.binary }) }
+        ensures room { IfOk result (λ f. f.room ≡ room) }
+    {
+        let limit = budgets.protected.depth + budgets.binary.depth + 1;
+        let mut registers = Vec::with_capacity(alloc, 1024 * limit as usize)?;
+        registers.resize(usize::from(count), 0)?;
+        Ok(Frames {
+            limit,
+            room,
+            top: Line {
+                function,
+                into: 0,
+                count,
+                place: 0,
+                base: 0,
+                floor: 0,
+                held: 0,
+            },
+            below: Vec::with_capacity(alloc, limit as usize)?,
+            registers,
+            objects: Vec::with_capacity(alloc, room as usize)?,
+            budgets,
+        })
+    }
+
     /// The number of the newest activation's function.
     pub(crate) fn function(&self) -> u16
         ensures { result ≡ self.now.machine.top.function }
@@ -224,7 +262,7 @@ impl Frames {
         requires count { count ≤ 1024 }
         requires few { length args.now ≤ count }
         requires each { All (λ r. r < length self.old.machine.top.registers) args.now }
-        ensures { self.new ≡ record self.old { machine = entered (part_if protected) (activation_of function count into (map (register self.old.machine) args.now)) self.old.machine } }
+        ensures { self.new ≡ record self.old { machine = entered (part_if protected) (fresh function count into (map (register self.old.machine) args.now)) self.old.machine } }
     {
         let left = self.budgets.of(protected);
         self.budgets = self.budgets.with(

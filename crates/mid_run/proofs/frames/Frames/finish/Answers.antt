@@ -1,5 +1,5 @@
 use Rattle.std.proofs.Common.{◌≡◌, ◌+◌, ◌-◌, ◌<◌, ◌≤◌, length, take, ap, sym, ◌∙◌, arith}
-use Rattle.mid_run.specs.Draft.{Machine}
+use Rattle.mid_code.specs.Machine.{Machine}
 use Rattle.mid_run.proofs.Rows.{finished-rows, opened_length}
 use Rattle.mid_run.proofs.frames.Frames.finish.Goals as goal
 
