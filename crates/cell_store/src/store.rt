@@ -44,6 +44,17 @@ impl Store {
         })
     }
 
+    /// How many cells may live.
+    pub fn budget(&self) -> u32
+        ensures budget { result ≡ self.now.budget }
+        ensures bounded { result ≤ 1048576 }
+
+        // Each object has a cell.
+        ensures few { length self.now.live ≤ self.now.budget }
+    {
+        self.budget
+    }
+
     /// The least number that a new object may have.
     pub fn fresh(&self) -> u64
         ensures { result ≡ self.now.fresh }
