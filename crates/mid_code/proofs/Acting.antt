@@ -40,7 +40,7 @@ AccessFits program m (Stores pointer value) = IsValue pointer × IsValue value �
 AccessFits program m (VolatileLoads target pointer) = IsValue pointer × ((value : ℕ) → IsValue value → IsMachine program (given target value m))
 AccessFits program m (VolatileStores pointer value) = IsValue pointer × IsValue value × IsMachine program (passed m)
 AccessFits program m (Opens target cells) = (1 ≤ cells) × ((number : ℕ) → IsValue (pointer_to number 0) → IsMachine program (given_object target number m))
-AccessFits program m (Closes number) = IsMachine program (passed_close m)
+AccessFits program m (Closes number) = (1 ≤ length m.top.opened) × IsMachine program (passed_close m)
 AccessFits program m (Puts value) = IsMachine program (passed m)
 AccessFits program m (Gets target) = (value : ℕ) → IsValue value → IsMachine program (given target value m)
 AccessFits program m (Exits value) = Unit {0}
@@ -218,7 +218,7 @@ close_fits program m h place line (newest ∷ older) is k =
     let order = in_order h.top.code.code m.top.place (Close place) (newest.place ∷ map (λ o. o.place) older) k.ordered found in
     let named : (newest.place == place) ≡ true = not-false (newest.place == place) order.0 in
     if_fits program m (newest.place == place) (Reaches (Closes newest.number) line) Lost
-    (λ _. closed_fits program m h place newest older is named k)
+    (λ _. (omega (arith, ap (λ (os : List Opened). length os) is), closed_fits program m h place newest older is named k))
     (λ unnamed. both_ways (newest.place == place) unnamed named)
   where
     closed_fits : (program : MidProgram) (m : Machine) (h : IsMachine program m) (place : ℕ) (newest : Opened) (older : List Opened) → m.top.opened ≡ newest ∷ older → (newest.place == place) ≡ true → Keeps program m.top h.top (Close place) → IsMachine program (passed_close m)

@@ -7,3 +7,9 @@ pub mod Standing
 pub mod Flowing
 pub mod Naming
 pub mod Acting
+pub mod Remembering
+pub mod Accessing
+pub mod Opening
+pub mod Fitting
+pub mod Starting
+pub mod Nearing

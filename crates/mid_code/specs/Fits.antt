@@ -1,6 +1,6 @@
 -- A run that stands within its program: what every state of a run of a valid program is like.
 use Rattle.std.specs.Prelude.{ℕ, ◌≡◌, ◌+◌, ◌^◌, ◌<◌, ◌≤◌, List, [], ◌∷◌, length, map, Some, All}
-use Rattle.srmt_base.specs.Objects.{Object, Objects}
+use Rattle.srmt_base.specs.Objects.{Object, Objects, live_cells}
 use Rattle.srmt_base.specs.Memory.{Memory, Part, Protected, Binary, first_number, last_number}
 use Rattle.mid_code.specs.declared.program.MidProgram.{MidProgram}
 use Rattle.mid_code.specs.declared.program.MidFunction.{MidFunction}
@@ -38,11 +38,19 @@ pub record IsLeft (program : MidProgram) (part : Part) (m : Machine) : Type 0 wh
 abbrev pub HoldsValues : Object → Type 0
 HoldsValues object = All IsValue object.cells
 
--- the numbers of a part are its own, and the cells of its objects hold values
+-- the numbers of objects rise, from a least one to below the next that is given
+abbrev pub AreRising : ℕ → List Object → ℕ → Type 0
+AreRising least [] fresh = least ≤ fresh
+AreRising least (object ∷ objects) fresh = (least ≤ object.number) × AreRising (object.number + 1) objects fresh
+
+-- the numbers of a part are its own, its objects have cells that hold values, and no more cells live than its budget
 pub record IsPart (part : Part) (objects : Objects) : Type 0 where
-  pub first : first_number part ≤ objects.fresh
+  pub rising : AreRising (first_number part) objects.live objects.fresh
   pub last : objects.fresh ≤ last_number part + 1
+  pub cells : All (λ object. 1 ≤ length object.cells) objects.live
   pub values : All HoldsValues objects.live
+  pub within : live_cells objects ≤ objects.budget
+  pub budget : objects.budget ≤ 1048576
 
 -- the machine stands within its program
 pub record IsMachine (program : MidProgram) (m : Machine) : Type 0 where
@@ -55,7 +63,14 @@ pub record IsMemory (memory : Memory) : Type 0 where
   pub protected : IsPart Protected memory.protected
   pub binary : IsPart Binary memory.binary
 
+-- how many objects some activations began and did not end
+abbrev pub open_count : List Activation → ℕ
+open_count [] = 0
+open_count (a ∷ rest) = length a.opened + open_count rest
+
 pub record Fits (program : MidProgram) (s : State) : Type 0 where
   pub machine : IsMachine program s.machine
   pub memory : IsMemory s.memory
   pub input : All (λ byte. byte < 256) s.input
+  -- each of them lives
+  pub opened : open_count (activations s.machine) ≤ length s.memory.protected.live + length s.memory.binary.live

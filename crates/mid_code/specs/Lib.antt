@@ -10,5 +10,6 @@ pub mod Versions
 pub mod Pairs
 pub mod Fits
 pub mod Start
+pub mod Bounds
 pub mod Meaning
 pub mod Keeps
