@@ -1,5 +1,5 @@
 ghost use Rattle.std.specs.Prelude.{◌≡◌, ℕ, ◌+◌, ◌-◌, ◌*◌, ◌^◌, ◌<◌, ◌≤◌, is_some, length, slice_get, IsFalse, IfSome, IfOk, IfErr, OnOk, OnErr};
-ghost use Rattle.srmt_base.specs.Objects.{start_of, live_at, is_live, add_of, load_of, put_of, set_up_of, end_of};
+ghost use Rattle.srmt_base.specs.Objects.{start_of, live_at, is_live, add_of, load_of, put_of, written, set_up_of, end_of};
 
 use crate::Steps;
 use crate::table::{Row, close_up, newest_or_place, place, reach, take_out};
@@ -113,6 +113,15 @@ impl Store {
     {
         let at = reach(&self.rows, pointer, true)?;
         self.cells[at] = value;
+        Ok(())
+    }
+
+    /// Whether a write to a cell would be made, or the trap that it would give.
+    pub fn may_put(&self, pointer: u64) -> Result<(), Trap>
+        ensures ok { OnOk result ((value : ℕ) → put_of self.now pointer value ≡ Ok (written self.now pointer value)) }
+        ensures trap { IfErr result (λ trap. (value : ℕ) → put_of self.now pointer value ≡ Err trap) }
+    {
+        let _at = reach(&self.rows, pointer, true)?;
         Ok(())
     }
 

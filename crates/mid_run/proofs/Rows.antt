@@ -1,17 +1,17 @@
 -- Parts of rows, and the activations that they are.
 use Rattle.std.proofs.Common.{ℕ, ◌+◌, ◌-◌, ◌*◌, ◌^◌, ◌<◌, ◌≤◌, ◌≡◌, zero, suc, Bool, true, false, List, [], ◌∷◌, ◌++◌, length, map, take, drop, replicate, get_or, slice_index, set, Some, None, refl, ap, sym, subst, ◌∙◌, arith}
-use Rattle.std.specs.Prelude.{reverse, sum_by, All}
+use Rattle.std.specs.Prelude.{reverse, All}
 use Rattle.std.proofs.lemmas.List.{length-take, length-take-le, length-drop, length-append, length-replicate, length-map, length-reverse, length-set, take_all, take_more, map_push, drop-append-le, take-append-le, drop-take, take-take, take-set-le, drop-set-add, reverse-append, append_assoc, drop_at, get_or-take, get_or-drop}
 use Rattle.std.proofs.Math.Seq.{take-set-lt}
-use Rattle.std.proofs.lemmas.List.Sums.{sum_by-cons}
 use Rattle.std.proofs.lemmas.List.Elements.{All-set, All-take, All-append, All-replicate}
 use Rattle.srmt_base.specs.Memory.{part_if}
-use Rattle.mid_code.specs.Machine.{Activation, Budget, Machine, Opened, given, given_object, passed_close, budget_of, leaves, entered, register, Goes}
+use Rattle.mid_code.specs.Fits.{open_count}
+use Rattle.mid_code.specs.Machine.{activations, Activation, Budget, Machine, Opened, given, given_object, passed_close, budget_of, leaves, entered, register, Goes}
 use Rattle.mid_run.specs.declared.frames.Line.{Line}
 use Rattle.mid_run.specs.declared.frames.Budgets.{Budgets}
 use Rattle.mid_run.specs.declared.frames.Left.{Left}
 use Rattle.mid_run.specs.declared.frames.Begun.{Begun}
-use Rattle.mid_run.specs.Kept.{activation_in, opened_of, machine_in, AreStacked, AreKept, open_count, left_of, left_at, with_left, fresh, TakesResult}
+use Rattle.mid_run.specs.Kept.{activation_in, opened_of, machine_in, AreStacked, AreKept, left_of, left_at, with_left, fresh, TakesResult}
 
 -- a part of the first n of a row
 part_take : {A : Type 0} (from long n : ℕ) (xs : List A) → from + long ≤ n → take long (drop from (take n xs)) ≡ take long (drop from xs)
@@ -123,18 +123,15 @@ pub opened_length : (floor held : ℕ) (os : List Begun) → floor + held ≤ le
 opened_length floor held os h = rw (length-reverse, length-map, length-take, length-drop) (omega arith)
 
 -- all open objects are those of the row
-held_sum : (lines : List Line) (end top : ℕ) (rs : List ℕ) (os : List Begun) → AreStacked end top lines → top ≤ length os → sum_by (λ (a : Activation). length a.opened) (map (activation_in rs os) lines) ≡ top
+held_sum : (lines : List Line) (end top : ℕ) (rs : List ℕ) (os : List Begun) → AreStacked end top lines → top ≤ length os → open_count (map (activation_in rs os) lines) ≡ top
 held_sum [] end top rs os laid h = omega (arith, laid.1)
 held_sum (line ∷ lines) end top rs os laid h =
     let rest = held_sum lines line.base line.floor rs os laid.3 (omega (arith, laid.1)) in
     let len = opened_length line.floor line.held os (omega (arith, laid.1)) in
-    rw sum_by-cons (omega (arith, rest, len, laid.1))
+    omega (arith, rest, len, laid.1)
 
-pub open_count-rows : (rs : List ℕ) (os : List Begun) (top : Line) (below : List Line) (budgets : Budgets) → AreStacked (length rs) (length os) (top ∷ reverse below) → open_count (machine_in rs os top below budgets) ≡ length os
-open_count-rows rs os top below budgets laid =
-    let len = opened_length top.floor top.held os (omega (arith, laid.1)) in
-    let rest = held_sum (reverse below) top.base top.floor rs os laid.3 (omega (arith, laid.1)) in
-    omega (arith, len, rest, laid.1)
+pub open_count-rows : (rs : List ℕ) (os : List Begun) (top : Line) (below : List Line) (budgets : Budgets) → AreStacked (length rs) (length os) (top ∷ reverse below) → open_count (activations (machine_in rs os top below budgets)) ≡ length os
+open_count-rows rs os top below budgets laid = held_sum (top ∷ reverse below) (length rs) (length os) rs os laid (omega arith)
 
 -- each activation has at most 1,024 registers
 rows_fit : (lines : List Line) (end top : ℕ) → AreStacked end top lines → end ≤ 1024 * length lines

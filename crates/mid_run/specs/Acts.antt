@@ -7,6 +7,8 @@ use Rattle.mid_code.specs.declared.program.MidProgram.{MidProgram}
 use Rattle.mid_code.specs.declared.program.MidFunction.{MidFunction}
 use Rattle.mid_code.specs.declared.mid.Mid.{Mid}
 use Rattle.mid_code.specs.declared.mid.Mid.TheVariants.{Const, Move, Arith, Conv, PtrAdd, PtrDiff, PtrCmp, GlobAddr, FunAddr, Load, Store, VLoad, VStore, Open, Close, Jump, JumpZ, JumpN, Turn, Call, CallPtr, Return, Put, Get, Exit}
+use Rattle.mid_code.specs.declared.access.Access.{Access}
+use Rattle.mid_code.specs.declared.access.Access.TheVariants.{Loads, Stores, VolatileLoads, VolatileStores, Opens, Closes, Puts, Gets, Exits}
 use Rattle.mid_code.specs.Registers.{registers_list}
 use Rattle.mid_code.specs.Program.{function_at}
 use Rattle.mid_code.specs.Machine.{Opened, Machine, Does, Goes, Traps, Reaches, register, is_callee}
@@ -45,7 +47,7 @@ CanAct program (Load target pointer) m = IsThere m target × IsThere m pointer
 CanAct program (Store pointer source) m = IsThere m pointer × IsThere m source
 CanAct program (VLoad target pointer) m = IsThere m target × IsThere m pointer
 CanAct program (VStore pointer source) m = IsThere m pointer × IsThere m source
-CanAct program (Open target cells) m = IsThere m target
+CanAct program (Open target cells) m = IsThere m target × (1 ≤ cells)
 CanAct program (Close place) m = IsNewest place m.top.opened
 CanAct program (Jump place) m = Unit {0}
 CanAct program (JumpZ source place) m = IsThere m source
@@ -58,8 +60,20 @@ CanAct program (Put source) m = IsThere m source
 CanAct program (Get target) m = IsThere m target
 CanAct program (Exit source) m = IsThere m source
 
+-- what memory or the outside need to do what an instruction wants of them
+abbrev pub CanReach : Access → Machine → Type 0
+CanReach (Loads target pointer) m = IsThere m target
+CanReach (Stores pointer value) m = value < 2 ^ 44
+CanReach (VolatileLoads target pointer) m = IsThere m target × (pointer < 2 ^ 44)
+CanReach (VolatileStores pointer value) m = (pointer < 2 ^ 44) × (value < 2 ^ 44)
+CanReach (Opens target cells) m = IsThere m target × (1 ≤ cells)
+CanReach (Closes number) m = 1 ≤ length m.top.opened
+CanReach (Puts value) m = Unit {0}
+CanReach (Gets target) m = IsThere m target
+CanReach (Exits value) m = Unit {0}
+
 -- what the code says that an instruction did is what it does, and the machine is as it leaves it
 abbrev pub HasDone : Does → ℕ → Kept → Kept → Did → Type 0
 HasDone does line before after Went = (does ≡ Goes after.machine) × (after.room ≡ before.room)
 HasDone does line before after (Trapped trap at) = (does ≡ Traps trap at) × (after ≡ before)
-HasDone does line before after (Wants access) = (does ≡ Reaches access line) × (after ≡ before)
+HasDone does line before after (Wants access) = (does ≡ Reaches access line) × (after ≡ before) × CanReach access before.machine

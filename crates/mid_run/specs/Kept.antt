@@ -1,5 +1,5 @@
 -- How the live activations of a machine are kept in flat rows.
-use Rattle.std.specs.Prelude.{◌≡◌, ℕ, ◌+◌, ◌-◌, ◌*◌, ◌^◌, ◌<◌, ◌≤◌, ◌==◌, List, [], ◌∷◌, ◌++◌, length, map, take, drop, reverse, replicate, slice_index, sum_by, slice_set, All, Bool, true, false, Option, Some, None}
+use Rattle.std.specs.Prelude.{◌≡◌, ℕ, ◌+◌, ◌-◌, ◌*◌, ◌^◌, ◌<◌, ◌≤◌, ◌==◌, List, [], ◌∷◌, ◌++◌, length, map, take, drop, reverse, replicate, slice_index, slice_set, All, Bool, true, false, Option, Some, None}
 use Rattle.mid_code.specs.Machine.{Opened, Activation, Budget, Machine}
 use Rattle.mid_run.specs.declared.frames.Line.{Line}
 use Rattle.mid_run.specs.declared.frames.Left.{Left}
@@ -10,10 +10,6 @@ use Rattle.mid_run.specs.declared.frames.Begun.{Begun}
 pub record Kept : Type 0 where
   pub machine : Machine
   pub room : ℕ
-
--- the objects that all activations of a machine have open
-abbrev pub open_count : Machine → ℕ
-open_count m = length m.top.opened + sum_by (λ (a : Activation). length a.opened) m.below
 
 -- an object as a row keeps it
 abbrev pub opened_of : Begun → Opened

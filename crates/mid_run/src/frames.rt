@@ -1,7 +1,8 @@
 ghost use Rattle.std.specs.Prelude.{◌≡◌, ℕ, ◌+◌, ◌-◌, ◌^◌, ◌<◌, ◌≤◌, List, [], ◌∷◌, ◌++◌, Option, Some, None, length, map, replicate, slice_index, slice_set, IfOk, All, vec_len, vec_capacity};
 ghost use Rattle.srmt_base.specs.Memory.{part_if};
-ghost use Rattle.mid_code.specs.Machine.{Goes, budget_of, with_budget, passed, moved_to, given, given_object, passed_close, entered, leaves, register};
-ghost use Rattle.mid_run.specs.Kept.{open_count, newest_number, fresh, left_of, TakesResult};
+ghost use Rattle.mid_code.specs.Fits.{open_count};
+ghost use Rattle.mid_code.specs.Machine.{Goes, activations, budget_of, with_budget, passed, moved_to, given, given_object, passed_close, entered, leaves, register};
+ghost use Rattle.mid_run.specs.Kept.{newest_number, fresh, left_of, TakesResult};
 
 use std::alloc::{AllocError, Global};
 use std::marker::Model;
@@ -218,7 +219,7 @@ impl Frames {
         requires place { self.old.machine.top.place + 1 < 2 ^ 32 }
         requires target { target < length self.old.machine.top.registers }
         requires number { number < 2 ^ 28 }
-        requires room { open_count self.old.machine < self.old.room }
+        requires room { open_count (activations self.old.machine) < self.old.room }
         ensures { self.new ≡ record self.old { machine = given_object target number self.old.machine } }
     {
         let place = self.top.place;

@@ -7,3 +7,4 @@
 
 mod act;
 mod frames;
+mod memory;
