@@ -8,3 +8,4 @@
 mod act;
 mod frames;
 mod memory;
+mod reach;
