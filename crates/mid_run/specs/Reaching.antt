@@ -1,5 +1,5 @@
 -- What memory and the outside do for an instruction.
-use Rattle.std.specs.Prelude.{◌≡◌, ℕ, ◌%◌, ◌^◌, ◌<◌, ◌≤◌, List, [], ◌∷◌, length, Option, Some, None, Result, Ok, Err, false, nat_lt, if◌then◌else◌}
+use Rattle.std.specs.Prelude.{◌≡◌, ℕ, ◌%◌, ◌^◌, ◌<◌, ◌≤◌, ◌+◌, List, [], ◌∷◌, length, Option, Some, None, Result, Ok, Err, false, nat_lt, if◌then◌else◌}
 use Rattle.srmt_base.specs.declared.event.Event.{Event}
 use Rattle.srmt_base.specs.declared.event.Event.TheVariants.{Byte, PortRead, PortWrite, Exit as ExitEvent}
 use Rattle.srmt_base.specs.declared.trap.SourceEnd.{SourceEnd}
@@ -10,7 +10,8 @@ use Rattle.srmt_base.specs.Objects.{Objects, object_part, offset_part, add_of}
 use Rattle.srmt_base.specs.Memory.{Part, Memory, last_number}
 use Rattle.mid_code.specs.declared.access.Access.{Access}
 use Rattle.mid_code.specs.declared.access.Access.TheVariants.{Loads, Stores, VolatileLoads, VolatileStores, Opens as OpensOne, Closes, Puts, Gets, Exits}
-use Rattle.mid_code.specs.Machine.{Machine, given_object}
+use Rattle.mid_code.specs.Machine.{Machine, given_object, activations}
+use Rattle.mid_code.specs.Fits.{open_count}
 use Rattle.mid_run.specs.Kept.{Kept}
 use Rattle.mid_code.specs.Meaning.{State, Step, On, Ends}
 
@@ -46,3 +47,12 @@ Opens part target cells line frames objects frames2 objects2 None =
     (begun_in part objects cells ≡ Ok objects2) × (frames2.machine ≡ given_object target objects.fresh frames.machine)
 Opens part target cells line frames objects frames2 objects2 (Some end) =
     (trap : Trap) × (begun_in part objects cells ≡ Err trap) × (end ≡ TrapEnd trap line)
+
+-- there is room for all objects that may be open
+pub record HasRoom (frames : Kept) (protected binary : Objects) : Type 0 where
+  pub opened : open_count (activations frames.machine) ≤ length protected.live + length binary.live
+  pub protected_few : length protected.live ≤ 1048576
+  pub binary_few : length binary.live ≤ 1048576
+  pub protected_budget : protected.budget ≤ 1048576
+  pub binary_budget : binary.budget ≤ 1048576
+  pub room : frames.room ≡ 2097152

@@ -5,17 +5,106 @@ ghost use Rattle.srmt_base.specs.Memory.{part_if, read_of, write_of, begin_of, n
 ghost use Rattle.srmt_outside.specs.Count.{Rose};
 ghost use Rattle.srmt_outside.specs.Told.{Appends};
 ghost use Rattle.mid_code.specs.Fits.{open_count};
-ghost use Rattle.mid_code.specs.Machine.{activations};
-ghost use Rattle.mid_code.specs.Meaning.{after_read, after_write, after_begin, after_get, reach};
+ghost use Rattle.mid_code.specs.Machine.{activations, part_of_function};
+ghost use Rattle.mid_code.specs.Meaning.{after_read, after_write, after_begin, after_get, reach as reach_of};
 ghost use Rattle.mid_run.specs.Acts.{IsThere, CanReach};
-ghost use Rattle.mid_run.specs.Reaching.{both, state_of, events_of, LeadsTo, Opens};
+ghost use Rattle.mid_run.specs.Reaching.{both, state_of, events_of, LeadsTo, Opens, HasRoom};
 
 use crate::frames::Frames;
 use crate::memory::{begin, end, load, may_put, put};
 use cell_store::Store;
-use mid_code::Access;
+use mid_code::{Access, MidProgram};
 use srmt_base::{Event, SourceEnd, Trap};
 use srmt_outside::{Failed, Outlet};
+
+/// Does what an instruction wants, and answers the end if the run ends by it.
+pub(crate) fn reach<O: Outlet>(
+    frames: &mut Frames,
+    protected: &mut Store,
+    binary: &mut Store,
+    input: &[u8],
+    at: &mut usize,
+    program: &MidProgram,
+    access: Access,
+    line: u32,
+    outlet: &mut O,
+) -> Result<Option<SourceEnd>, Failed>
+    requires place { frames.old.machine.top.place + 1 < 2 ^ 32 }
+    requires can { CanReach access frames.old.machine }
+    requires room { HasRoom frames.old protected.old binary.old }
+    requires within { at.old ≤ length input.now }
+    ensures reached { IfOk result (λ end. LeadsTo (reach_of program.now access line (state_of frames.old.machine protected.old binary.old (drop at.old input.now))) (state_of frames.new.machine protected.new binary.new (drop at.new input.now)) (events_of access end) end) }
+    ensures told { IfOk result (λ end. Appends (O.events outlet.old) (O.events outlet.new) (events_of access end)) }
+    ensures room { frames.new.room ≡ frames.old.room }
+    ensures within { at.new ≤ length input.now }
+    ensures failed { OnErr result (Rose (O.faults outlet.old) (O.faults outlet.new)) }
+    ensures kept { OnErr result ((frames.new ≡ frames.old) × (protected.new ≡ protected.old) × (binary.new ≡ binary.old) × (at.new ≡ at.old)) }
+    ensures unwritten { OnErr result (O.events outlet.new ≡ O.events outlet.old) }
+    ensures never_falls { O.faults outlet.old ≤ O.faults outlet.new }
+{
+    match access {
+        Access::Loads { target, pointer } => {
+            Ok(read(frames, protected, binary, target, pointer, line))
+        }
+        Access::Stores { pointer, value } => {
+            Ok(write(frames, protected, binary, pointer, value, line))
+        }
+        Access::VolatileLoads { target, pointer } => {
+            let end = read_volatile(frames, protected, binary, target, pointer, line, outlet)?;
+            Ok(end)
+        }
+        Access::VolatileStores { pointer, value } => {
+            let end = write_volatile(frames, protected, binary, pointer, value, line, outlet)?;
+            Ok(end)
+        }
+        Access::Opens { target, cells } => Ok(open_own(
+            frames, protected, binary, program, target, cells, line,
+        )),
+        Access::Closes { number } => {
+            end(protected, binary, number);
+            frames.finish();
+            Ok(None)
+        }
+        Access::Puts(value) => {
+            outlet.event(Event::Byte((value % 256) as u8))?;
+            frames.pass();
+            Ok(None)
+        }
+        Access::Gets { target } => {
+            get(frames, input, at, target);
+            Ok(None)
+        }
+        Access::Exits(value) => {
+            let status = (value % 256) as u8;
+            outlet.event(Event::Exit(status))?;
+            Ok(Some(SourceEnd::Exit(status)))
+        }
+    }
+}
+
+/// Begins an object in the part of the running function.
+fn open_own(
+    frames: &mut Frames,
+    protected: &mut Store,
+    binary: &mut Store,
+    program: &MidProgram,
+    target: u16,
+    cells: u16,
+    line: u32,
+) -> Option<SourceEnd>
+    requires place { frames.old.machine.top.place + 1 < 2 ^ 32 }
+    requires target { IsThere frames.old.machine target }
+    requires cells { 1 ≤ cells }
+    requires room { HasRoom frames.old protected.old binary.old }
+    ensures reached { (rest : List ℕ) → LeadsTo (reach_of program.now (Access.Opens target cells) line (state_of frames.old.machine protected.old binary.old rest)) (state_of frames.new.machine protected.new binary.new rest) [] result }
+    ensures room { frames.new.room ≡ frames.old.room }
+{
+    if frames.function() <= program.main_functions {
+        open(frames, protected, true, target, cells, line)
+    } else {
+        open(frames, binary, false, target, cells, line)
+    }
+}
 
 /// Reads a cell into the target register.
 fn read(
