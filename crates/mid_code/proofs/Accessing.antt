@@ -1,14 +1,13 @@
 -- Memory as a whole after each access: it keeps its numbers and values, and so many objects live.
-use Rattle.std.proofs.Common.{◌≡◌, ℕ, zero, suc, ◌+◌, ◌-◌, ◌*◌, ◌/◌, ◌<◌, ◌≤◌, ◌^◌, List, [], ◌∷◌, ◌++◌, length, Option, Some, None, Result, Ok, Err, Bool, true, false, refl, sym, ap, ◌∙◌, subst, arith}
-use Rattle.std.specs.Prelude.{All, IfOk, ◌||◌, not, ◌==◌, nat_lt, if◌then◌else◌, map, filter, replicate}
-use Rattle.std.proofs.lemmas.Bool.{ltb-false, eqb-true, eqb-false, ne_eqb}
+use Rattle.std.proofs.Common.{◌≡◌, ℕ, ◌+◌, ◌<◌, ◌≤◌, List, [], ◌∷◌, length, Result, Ok, Err, Bool, true, false, refl, arith}
+use Rattle.std.specs.Prelude.{IfOk, ◌||◌, not, ◌==◌, nat_lt, if◌then◌else◌, filter, replicate}
+use Rattle.std.proofs.lemmas.Bool.{ltb-false, eqb-true, ne_eqb}
 use Rattle.std.proofs.lemmas.List.{length-map, length-append}
 use Rattle.srmt_base.specs.declared.trap.Trap.{Trap}
 use Rattle.srmt_base.specs.declared.trap.Trap.TheVariants.{Store}
-use Rattle.srmt_base.specs.Objects.{Object, Objects, pointer_to, access_of, if_passed, written_in, written, put_of, begun, add_of, end_of, live_cells}
+use Rattle.srmt_base.specs.Objects.{Object, Objects, pointer_to, access_of, if_passed, written_in, written, begun, end_of, live_cells}
 use Rattle.srmt_base.specs.Memory.{Memory, Part, Protected, Binary, first_number, last_number, objects_of, with_objects, part_of_number, part_of, changed, write_of, next_number, begin_of, finish_of}
 use Rattle.mid_code.specs.Fits.{IsValue, AreRising, IsPart, IsMemory}
-use Rattle.mid_code.proofs.Keeping.{neither}
 use Rattle.mid_code.proofs.Remembering.{part_of_memory, written_part, begun_part, ended_part}
 
 -- how many objects live
@@ -30,9 +29,10 @@ AfterWrite memory next = IsMemory next × (live_count next ≡ live_count memory
 wrote_by : (memory : Memory) (part : Part) (pointer value : ℕ) (r : Result Object Trap) → IsMemory memory → IsValue value → IfOk (changed part memory (if_passed (λ _. written (objects_of part memory) pointer value) r)) (AfterWrite memory)
 wrote_by memory part pointer value (Err trap) h small = tt
 wrote_by memory part pointer value (Ok object) h small =
-    let s = objects_of part memory in
-    (with_part memory part (written s pointer value) h (written_part part s pointer value small (part_of_memory memory part h)),
-    omega (arith, count_with memory part (written s pointer value), length-map s.live (written_in pointer value)))
+    let s = objects_of part memory in (
+      with_part memory part (written s pointer value) h (written_part part s pointer value small (part_of_memory memory part h)),
+      omega (arith, count_with memory part (written s pointer value), length-map s.live (written_in pointer value)),
+    )
 
 pub wrote : (memory : Memory) (pointer value : ℕ) → IsMemory memory → IsValue value → IfOk (write_of memory pointer value) (AfterWrite memory)
 wrote memory pointer value h small = wrote_by memory (part_of pointer) pointer value (access_of true (objects_of (part_of pointer) memory) pointer) h small
@@ -85,9 +85,10 @@ one_removed number least (o ∷ objects) fresh h =
 finished_by : (memory : Memory) (part : Part) (number : ℕ) → IsMemory memory → IsMemory (with_objects part memory (end_of (objects_of part memory) number)) × (live_count memory ≤ live_count (with_objects part memory (end_of (objects_of part memory) number)) + 1)
 finished_by memory part number h =
     let s = objects_of part memory in
-    let k = part_of_memory memory part h in
-    (with_part memory part (end_of s number) h (ended_part part s number k),
-    omega (arith, count_with memory part (end_of s number), one_removed number (first_number part) s.live s.fresh k.rising))
+    let k = part_of_memory memory part h in (
+      with_part memory part (end_of s number) h (ended_part part s number k),
+      omega (arith, count_with memory part (end_of s number), one_removed number (first_number part) s.live s.fresh k.rising),
+    )
 
 pub finished : (memory : Memory) (number : ℕ) → IsMemory memory → IsMemory (finish_of memory number) × (live_count memory ≤ live_count (finish_of memory number) + 1)
 finished memory number h = finished_by memory (part_of_number number) number h

@@ -1,7 +1,7 @@
 -- What an instruction of a valid program does leads to a machine that stands within its program.
-use Rattle.std.proofs.Common.{◌≡◌, ◌≢◌, ℕ, zero, suc, ◌+◌, ◌-◌, ◌<◌, ◌≤◌, ◌^◌, List, [], ◌∷◌, length, Option, Some, None, Result, Ok, Err, Bool, true, false, inl, inr, refl, sym, ap, ◌∙◌, subst, arith}
-use Rattle.std.specs.Prelude.{All, IfOk, ◌&&◌, ◌||◌, not, ◌==◌, if◌then◌else◌, map, drop, slice_index, slice_set, slice_get}
-use Rattle.std.proofs.lemmas.Bool.{and_parts, not-false, not-true, eqb-true, eqb-false, leb-false, cases_Bool, both_ways, eq-eqb}
+use Rattle.std.proofs.Common.{◌≡◌, ◌≢◌, ℕ, zero, suc, ◌+◌, ◌-◌, ◌<◌, ◌≤◌, ◌^◌, List, [], ◌∷◌, length, Option, Some, None, Result, Ok, Err, Bool, true, false, refl, sym, ap, ◌∙◌, subst, arith}
+use Rattle.std.specs.Prelude.{All, IfOk, not, ◌==◌, if◌then◌else◌, map, drop, slice_set, slice_get}
+use Rattle.std.proofs.lemmas.Bool.{and_parts, not-false, eqb-true, eqb-false, leb-false, both_ways}
 use Rattle.std.proofs.lemmas.List.{length-set, length-map}
 use Rattle.std.proofs.lemmas.List.Elements.{All-set}
 use Rattle.srmt_base.specs.declared.trap.Trap.{Trap}
@@ -23,9 +23,9 @@ use Rattle.mid_code.specs.Registers.{registers_list}
 use Rattle.mid_code.specs.Program.{function_at}
 use Rattle.mid_code.specs.Operands.{either, number}
 use Rattle.mid_code.specs.Flow.{found_at, goes_to, leaves as left_open}
-use Rattle.mid_code.specs.Rules.{is_final, is_static, is_callable, is_bad_target, is_turn, misfits_type, type_of, misreturns}
+use Rattle.mid_code.specs.Rules.{is_final, is_static, is_callable, is_bad_target, misfits_type, type_of, misreturns}
 use Rattle.mid_code.specs.Valid.{IsValid}
-use Rattle.mid_code.specs.Machine.{Opened, Activation, Machine, Does, Goes, Traps, Reaches, Lost, register, arguments, moved_to, passed, given, given_object, passed_close, gives, moved_if, part_of_function, budget_of, with_budget, counts, spent, activation_of, entered, enters, calls, is_of_type, is_callee, calls_value, leaves, closes, act}
+use Rattle.mid_code.specs.Machine.{Opened, Activation, Machine, Does, Goes, Traps, Reaches, Lost, register, arguments, moved_to, passed, given, given_object, passed_close, gives, moved_if, part_of_function, budget_of, with_budget, counts, activation_of, entered, enters, calls, is_of_type, is_callee, calls_value, leaves, closes, act}
 use Rattle.mid_code.specs.Fits.{IsValue, IsWithin, AreBelow, IsMachine}
 use Rattle.mid_code.proofs.Keeping.{KeepsRules, neither}
 use Rattle.mid_code.proofs.Values.{read_small, reads_small, wider, first_registers}
@@ -127,7 +127,7 @@ entering : (program : MidProgram) (m : Machine) (h : IsMachine program m) (part 
 entering program m h part line callee own within behind_it room =
     if_fits program m ((budget_of part m).depth == 0) (Traps Depth line) (if (budget_of part m).turns == 0 then Traps Turns line else Goes (entered part callee m)) (λ _. tt)
     (λ some. if_fits program m ((budget_of part m).turns == 0) (Traps Turns line) (Goes (entered part callee m)) (λ _. tt)
-      (λ _. entered_fits program m part callee (record m.top { place = m.top.place + 1 }) h own within behind_it refl refl room (at_least_one (budget_of part m).depth some)))
+    (λ _. entered_fits program m part callee (record m.top { place = m.top.place + 1 }) h own within behind_it refl refl room (at_least_one (budget_of part m).depth some)))
 
 -- a function as it begins
 begins : (program : MidProgram) (number : ℕ) (f : MidFunction) (into : ℕ) (values : List ℕ) → IsValid program → function_at program number ≡ Some f → length values ≤ length f.kinds → All IsValue values → IsWithin program (activation_of number f into values)
@@ -171,14 +171,14 @@ calling_value : (program : MidProgram) (m : Machine) (h : IsMachine program m) (
 calling_value program m h ty value line into values regs valid fits count each behind_it target =
     if_fits program m (value == 0) (Traps NullPointer line) (if is_callee program ty value then calls program value (function_at program value) into values m else Traps NotAFunction line) (λ _. tt)
     (λ _. if_fits program m (is_callee program ty value) (calls program value (function_at program value) into values m) (Traps NotAFunction line)
-      (λ callable.
-        let both = and_parts (is_of_type ty (function_at program value)) (not (value == program.main)) callable in
-        let f = is_callee-found ty (function_at program value) both.0 in
-        let k = function_kept program value f.0 valid f.1 in
-        let typed : misfits_type h.top.code.kinds into regs (slice_get program.types f.0.ty) ≡ false = ap (λ t. misfits_type h.top.code.kinds into regs (slice_get program.types t)) f.2 ∙ fits in
-        let room : length values ≤ length f.0.kinds = omega (arith, count, args_room program h.top.code.kinds into regs value f.0 k typed) in
-        calling program m h value into (function_at program value) f.0 values valid f.1 f.1 room each behind_it target)
-      (λ _. tt))
+    (λ callable.
+    let both = and_parts (is_of_type ty (function_at program value)) (not (value == program.main)) callable in
+    let f = is_callee-found ty (function_at program value) both.0 in
+    let k = function_kept program value f.0 valid f.1 in
+    let typed : misfits_type h.top.code.kinds into regs (slice_get program.types f.0.ty) ≡ false = ap (λ t. misfits_type h.top.code.kinds into regs (slice_get program.types t)) f.2 ∙ fits in
+    let room : length values ≤ length f.0.kinds = omega (arith, count, args_room program h.top.code.kinds into regs value f.0 k typed) in
+    calling program m h value into (function_at program value) f.0 values valid f.1 f.1 room each behind_it target)
+    (λ _. tt))
 
 -- the place behind an instruction, with its activation otherwise as it is
 passing : (program : MidProgram) (m : Machine) (h : IsMachine program m) (mid : Mid) → Keeps program m.top h.top mid → is_final mid ≡ false → goes_to m.top.place mid ≡ (m.top.place + 1) ∷ [] → left_open m.top.place mid (map (λ o. o.place) m.top.opened) ≡ map (λ o. o.place) m.top.opened → IsWithin program (record m.top { place = m.top.place + 1 })
@@ -224,15 +224,16 @@ close_fits program m h place line (newest ∷ older) is k =
     closed_fits : (program : MidProgram) (m : Machine) (h : IsMachine program m) (place : ℕ) (newest : Opened) (older : List Opened) → m.top.opened ≡ newest ∷ older → (newest.place == place) ≡ true → Keeps program m.top h.top (Close place) → IsMachine program (passed_close m)
     closed_fits program m h place newest older is named k =
         let rest : left_open m.top.place (Close place) (map (λ o. o.place) m.top.opened) ≡ map (λ o. o.place) (drop 1 m.top.opened) =
-              rw is (ap (λ b. if b then map (λ o. o.place) older else newest.place ∷ map (λ o. o.place) older) named) in
+        rw is (ap (λ b. if b then map (λ o. o.place) older else newest.place ∷ map (λ o. o.place) older) named) in
         top_changed program m (record m.top { place = m.top.place + 1; opened = drop 1 m.top.opened }) h refl refl
         (behind program m.top h.top (Close place) [] m.top.registers (drop 1 m.top.opened) k refl refl refl h.top.each rest)
 
 open_fits : (program : MidProgram) (m : Machine) (h : IsMachine program m) (target cells : ℕ) → Keeps program m.top h.top (Open target cells) → AccessFits program m (Opens target cells)
-open_fits program m h target cells k =
-    (at_least_one cells k.bounded,
-    λ number small. top_changed program m (record m.top { place = m.top.place + 1; registers = slice_set m.top.registers target (pointer_to number 0); opened = record { place = m.top.place; number = number } ∷ m.top.opened }) h refl refl
-    (behind program m.top h.top (Open target cells) [] (slice_set m.top.registers target (pointer_to number 0)) (record { place = m.top.place; number = number } ∷ m.top.opened) k refl refl (length-set m.top.registers target (pointer_to number 0)) (All-set IsValue m.top.registers target (pointer_to number 0) small h.top.each) refl))
+open_fits program m h target cells k = (
+  at_least_one cells k.bounded,
+  λ number small. top_changed program m (record m.top { place = m.top.place + 1; registers = slice_set m.top.registers target (pointer_to number 0); opened = record { place = m.top.place; number = number } ∷ m.top.opened }) h refl refl
+      (behind program m.top h.top (Open target cells) [] (slice_set m.top.registers target (pointer_to number 0)) (record { place = m.top.place; number = number } ∷ m.top.opened) k refl refl (length-set m.top.registers target (pointer_to number 0)) (All-set IsValue m.top.registers target (pointer_to number 0) small h.top.each) refl),
+)
 
 turn_fits : (program : MidProgram) (m : Machine) (h : IsMachine program m) (line : ℕ) → Keeps program m.top h.top Turn → (part : Part) → DoesFit program m (counts part line m)
 turn_fits program m h line k part =

@@ -1,26 +1,24 @@
 -- Every state of a run of a valid program fits it, and has a next step or ends.
-use Rattle.std.proofs.Common.{◌≡◌, ℕ, zero, suc, ◌+◌, ◌-◌, ◌<◌, ◌≤◌, ◌^◌, List, [], ◌∷◌, length, Option, Some, None, Result, Ok, Err, refl, sym, ap, ◌∙◌, subst, arith}
+use Rattle.std.proofs.Common.{◌≡◌, ℕ, zero, suc, ◌+◌, ◌<◌, ◌≤◌, List, [], ◌∷◌, length, Some, Result, Ok, Err, refl, ap, ◌∙◌, subst, arith}
 use Rattle.std.specs.Prelude.{All, IfOk, slice_get, drop, option_and_then}
 use Rattle.std.proofs.lemmas.List.Elements.{All-head, All-tail}
 use Rattle.srmt_base.specs.declared.event.Event.{Event}
 use Rattle.srmt_base.specs.declared.trap.Trap.{Trap}
-use Rattle.srmt_base.specs.declared.trap.SourceEnd.{SourceEnd}
 use Rattle.srmt_base.specs.Objects.{pointer_to}
-use Rattle.srmt_base.specs.Memory.{Memory, Part, read_of, write_of, begin_of, finish_of, next_number}
-use Rattle.mid_code.specs.declared.program.MidFunction.{MidFunction}
+use Rattle.srmt_base.specs.Memory.{Memory, Part, read_of, write_of, begin_of, next_number}
 use Rattle.mid_code.specs.declared.program.MidLine.{MidLine}
 use Rattle.mid_code.specs.declared.program.MidProgram.{MidProgram}
 use Rattle.mid_code.specs.declared.access.Access.{Access}
 use Rattle.mid_code.specs.declared.access.Access.TheVariants.{Loads, Stores, VolatileLoads, VolatileStores, Opens, Closes, Puts, Gets, Exits}
-use Rattle.mid_code.specs.Program.{function_at, line_at}
+use Rattle.mid_code.specs.Program.{line_at}
 use Rattle.mid_code.specs.Valid.{IsValid}
 use Rattle.mid_code.specs.Machine.{Machine, Does, Goes, Traps, Reaches, Lost, activations, passed, given, given_object, passed_close, does, act, act_at}
 use Rattle.mid_code.specs.Meaning.{State, Step, On, Ends, Stuck, Run, Running, Ended, NoWay, after_read, after_write, after_begin, after_get, own_part, reach, step, step_by, preceded, then_run, exec}
-use Rattle.mid_code.specs.Fits.{IsValue, IsMachine, IsMemory, Fits, open_count}
+use Rattle.mid_code.specs.Fits.{IsValue, IsMachine, Fits, open_count}
 use Rattle.mid_code.proofs.Keeping.{keeps}
 use Rattle.mid_code.proofs.Values.{one_within}
 use Rattle.mid_code.proofs.Remembering.{read_value}
-use Rattle.mid_code.proofs.Accessing.{AfterWrite, AfterBegin, live_count, wrote, began, finished}
+use Rattle.mid_code.proofs.Accessing.{AfterWrite, AfterBegin, wrote, began, finished}
 use Rattle.mid_code.proofs.Acting.{AccessFits, DoesFit, act_fits}
 use Rattle.mid_code.proofs.Opening.{OpensKept, act_opens}
 

@@ -8,7 +8,7 @@ use Rattle.mid_code.specs.declared.mid.Mid.{Mid}
 use Rattle.mid_code.specs.Program.{function_at}
 use Rattle.mid_code.specs.Operands.{operands}
 use Rattle.mid_code.specs.Flow.{breaks_order}
-use Rattle.mid_code.specs.Rules.{breaks_program, breaks_function, is_beyond, has_outside, names_nothing, has_other_kind, mixes_kinds, jumps_wrongly, runs_out, misfits, misfits_params, instruction_rule, line_rule, function_rule, rule_broken}
+use Rattle.mid_code.specs.Rules.{breaks_program, breaks_function, is_beyond, has_outside, names_nothing, has_other_kind, mixes_kinds, jumps_wrongly, runs_out, misfits, misfits_params, early_rule, or_order, instruction_rule, line_rule, function_rule, rule_broken}
 use Rattle.mid_code.specs.Valid.{IsValid}
 
 -- an instruction keeps the rules at its place
@@ -33,16 +33,20 @@ pub past : (b : Bool) (rule : ℕ) (rest : Option ℕ) → (if b then Some rule 
 past true rule rest h = absurd (cc)
 past false rule rest h = (refl, h)
 
+ordered_too : (early : Option ℕ) (breaks : Bool) → or_order early breaks ≡ None → (early ≡ None) × (breaks ≡ false)
+ordered_too (Some rule) breaks h = absurd (cc)
+ordered_too None breaks h = (refl, (past breaks 8 None h).0)
+
 pub keeps_instruction : (program : MidProgram) (number : ℕ) (function : MidFunction) (place : ℕ) (mid : Mid) → instruction_rule program number function place mid ≡ None → KeepsRules program number function place mid
-unfolding instruction_rule
+unfolding early_rule
 keeps_instruction program number function place mid h =
-    let one = past _ _ _ h in
+    let both = ordered_too (early_rule program number function place mid) (breaks_order function.code place mid) h in
+    let one = past _ _ _ both.0 in
     let three = past _ _ _ one.1 in
     let four = past _ _ _ three.1 in
     let five = past _ _ _ four.1 in
     let six = past _ _ _ five.1 in
     let seven = past _ _ _ six.1 in
-    let eight = past _ _ _ seven.1 in
     let there = neither _ _ three.0 in
     let kinds = neither _ _ four.0 in
     let types = neither _ _ seven.0 in
@@ -56,7 +60,7 @@ keeps_instruction program number function place mid h =
       followed = six.0;
       fits = types.0;
       params = types.1;
-      ordered = eight.0;
+      ordered = both.1;
     }
 
 function_past : (program : MidProgram) (number place : ℕ) (f : MidFunction) (l : MidLine) → function_rule program number place (Some f) ≡ None → slice_get f.code place ≡ Some l → instruction_rule program number f place l.mid ≡ None

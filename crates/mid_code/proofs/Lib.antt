@@ -1,3 +1,9 @@
+pub mod RuleLemmas
+pub mod KindLemmas
+pub mod Passing
+pub mod RowLemmas
+pub mod FlowLemmas
+pub mod OperandLemmas
 pub mod Keeping
 pub mod Runs
 pub mod Fetching
@@ -13,3 +19,8 @@ pub mod Opening
 pub mod Fitting
 pub mod Starting
 pub mod Nearing
+pub mod Bounding
+pub mod Smallness
+pub mod Trapping
+pub mod Counting
+pub mod Exactness

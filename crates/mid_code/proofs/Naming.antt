@@ -1,8 +1,8 @@
 -- What the instructions of a valid program name is there, and small.
-use Rattle.std.proofs.Common.{◌≡◌, ◌≢◌, ℕ, zero, suc, ◌+◌, ◌-◌, ◌*◌, ◌<◌, ◌≤◌, ◌^◌, List, [], ◌∷◌, length, Option, Some, None, Bool, true, false, inl, inr, refl, sym, ap, ◌∙◌, subst, arith}
+use Rattle.std.proofs.Common.{◌≡◌, ◌≢◌, ℕ, zero, suc, ◌+◌, ◌-◌, ◌<◌, ◌≤◌, ◌^◌, List, [], ◌∷◌, length, Option, Some, None, Bool, true, false, inl, inr, refl, subst, arith}
 use Rattle.std.specs.Prelude.{◌&&◌, ◌||◌, not, ◌==◌, nat_lt, nat_le, slice_get, sum_by}
 use Rattle.std.specs.List.{list_any}
-use Rattle.std.proofs.lemmas.Bool.{cases_lt, cases_eq, and_parts, and_from, not-false, not-true, eqb-true, eqb-false, eq-eqb, ltb-false, leb-false, leb-true, ltb-true, or_cases, both_ways}
+use Rattle.std.proofs.lemmas.Bool.{and_parts, not-false, not-true, eqb-true, eqb-false, eq-eqb, ltb-false, leb-false, leb-true, ltb-true, or_cases}
 use Rattle.std.proofs.lemmas.List.Sums.{sum_by-cons}
 use Rattle.srmt_base.specs.Objects.{pointer_to}
 use Rattle.mid_code.specs.declared.program.RegisterKind.{RegisterKind}
@@ -13,7 +13,7 @@ use Rattle.mid_code.specs.declared.program.MidFunction.{MidFunction}
 use Rattle.mid_code.specs.declared.program.MidProgram.{MidProgram}
 use Rattle.mid_code.specs.Program.{function_at}
 use Rattle.mid_code.specs.Operands.{Operand}
-use Rattle.mid_code.specs.Rules.{is_bad_static, has_bad_statics, has_large_type, has_bad_parts, breaks_program, breaks_function, has_bad_type, is_number_alone, is_static, is_callable, has_outside, same_kind, is_of_kind, are_of_kinds, misfits_type, type_of, is_bad_target, is_turn}
+use Rattle.mid_code.specs.Rules.{is_bad_static, has_bad_statics, has_large_type, has_bad_parts, has_bad_type, is_number_alone, is_static, is_callable, has_outside, same_kind, is_of_kind, are_of_kinds, misfits_type}
 use Rattle.mid_code.specs.Valid.{IsValid}
 use Rattle.mid_code.proofs.Keeping.{neither, keeps_function, keeps_program}
 use Rattle.mid_code.proofs.Values.{one_within}
@@ -119,11 +119,15 @@ pub record KeepsFunction (program : MidProgram) (number : ℕ) (f : MidFunction)
 typed_by : (is_main : Bool) (f : MidFunction) (type : Option FunType) → has_bad_type is_main f type ≡ false → (t : FunType) × (type ≡ Some t) × (length t.params ≤ length f.kinds) × (is_main ≡ true → length t.params ≡ 0)
 typed_by is_main f None h = absurd (cc)
 typed_by is_main f (Some t) h =
-    let both = neither (nat_lt (length f.kinds) (length t.params)) (is_main && not (is_number_alone t)) h in
-    (t, refl, ltb-false (length f.kinds) (length t.params) both.0, λ yes.
-      let alone : (true && not (is_number_alone t)) ≡ false = subst (λ b. (b && not (is_number_alone t)) ≡ false) yes both.1 in
-      let fact = and_parts (length t.params == 0) (same_kind t.result Number) (not-false (is_number_alone t) alone) in
-      eqb-true (length t.params) 0 fact.0)
+    let both = neither (nat_lt (length f.kinds) (length t.params)) (is_main && not (is_number_alone t)) h in (
+      t,
+      refl,
+      ltb-false (length f.kinds) (length t.params) both.0,
+      λ yes.
+          let alone : (true && not (is_number_alone t)) ≡ false = subst (λ b. (b && not (is_number_alone t)) ≡ false) yes both.1 in
+          let fact = and_parts (length t.params == 0) (same_kind t.result Number) (not-false (is_number_alone t) alone) in
+          eqb-true (length t.params) 0 fact.0,
+    )
 
 pub function_kept : (program : MidProgram) (number : ℕ) (f : MidFunction) → IsValid program → function_at program number ≡ Some f → KeepsFunction program number f
 function_kept program number f valid found =

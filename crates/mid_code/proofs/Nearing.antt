@@ -1,14 +1,13 @@
 -- Each instruction brings a run nearer to its end.
-use Rattle.std.proofs.Common.{◌≡◌, ℕ, zero, suc, ◌+◌, ◌-◌, ◌*◌, ◌<◌, ◌≤◌, ◌⊎◌, List, [], ◌∷◌, length, Option, Some, None, Result, Ok, Err, Bool, true, false, inl, inr, refl, sym, ap, ◌∙◌, subst, arith}
+use Rattle.std.proofs.Common.{◌≡◌, ℕ, zero, suc, ◌+◌, ◌-◌, ◌<◌, ◌≤◌, ◌⊎◌, List, [], ◌∷◌, length, Option, Some, None, Result, Ok, Err, Bool, true, false, inl, inr, refl, sym, ap, ◌∙◌, subst, arith}
 use Rattle.std.specs.Prelude.{◌==◌, ◌&&◌, not, nat_le, if◌then◌else◌, slice_get, slice_set}
-use Rattle.std.proofs.lemmas.Bool.{and_cases, eqb-false, leb-false, not-false, cases_Bool}
+use Rattle.std.proofs.lemmas.Bool.{and_cases, eqb-false, leb-false, not-false}
 use Rattle.srmt_base.specs.declared.trap.Trap.{Trap}
 use Rattle.srmt_base.specs.declared.trap.Trap.TheVariants.{NullPointer, NotAFunction, Turns, Depth}
 use Rattle.srmt_base.specs.Arith.{arith_of}
 use Rattle.srmt_base.specs.Pointer.{pointer_sum_of, pointer_difference_of, pointer_comparison_of}
 use Rattle.srmt_base.specs.Memory.{Part, Protected, Binary}
 use Rattle.mid_code.specs.declared.program.MidFunction.{MidFunction}
-use Rattle.mid_code.specs.declared.program.MidLine.{MidLine}
 use Rattle.mid_code.specs.declared.program.MidProgram.{MidProgram}
 use Rattle.mid_code.specs.declared.mid.Mid.{Mid}
 use Rattle.mid_code.specs.declared.mid.Mid.TheVariants.{Const, Move, Arith, Conv, PtrAdd, PtrDiff, PtrCmp, GlobAddr, FunAddr, Load, Store, VLoad, VStore, Open, Close, Jump, JumpZ, JumpN, Turn, Call, CallPtr, Return, Put, Get, Exit}
@@ -16,7 +15,7 @@ use Rattle.mid_code.specs.declared.access.Access.TheVariants.{Closes}
 use Rattle.mid_code.specs.Program.{function_at}
 use Rattle.mid_code.specs.Rules.{is_turn, is_bad_target}
 use Rattle.mid_code.specs.Valid.{IsValid}
-use Rattle.mid_code.specs.Machine.{Opened, Activation, Machine, Does, Goes, Traps, Reaches, Lost, register, arguments, moved_to, passed, given, gives, moved_if, part_of_function, budget_of, with_budget, spent, counts, activation_of, entered, enters, calls, is_callee, calls_value, leaves, closes, act}
+use Rattle.mid_code.specs.Machine.{Opened, Activation, Machine, Does, Goes, Traps, Reaches, Lost, register, arguments, passed, given, gives, moved_if, part_of_function, budget_of, with_budget, counts, activation_of, entered, calls, is_callee, leaves, closes, act}
 use Rattle.mid_code.specs.Bounds.{to_turn_in, to_turn, all_to_turn, left_to_go}
 use Rattle.mid_code.specs.Fits.{IsMachine}
 use Rattle.mid_code.proofs.Keeping.{neither}
@@ -30,9 +29,9 @@ nearer f place target within here on =
     elim (is_turn (slice_get f.code target)) as (λ b. (place < target) ⊎ (b ≡ true) → (if b then 0 else length f.code - target) < to_turn_in (Some f) place) [
       | true ↦ λ _. omega (arith, from, within)
       | false ↦ λ way. (elim way as (λ _. length f.code - target < to_turn_in (Some f) place) [
-          | inl later ↦ omega (arith, from, within, later)
-          | inr turn ↦ absurd (cc)
-        ])
+        | inl later ↦ omega (arith, from, within, later)
+        | inr turn ↦ absurd (cc)
+      ])
     ] on
 
 to_turn-le : (f : MidFunction) (place : ℕ) → to_turn_in (Some f) place ≤ length f.code
@@ -58,7 +57,7 @@ Stands program m h line mid = slice_get h.top.code.code m.top.place ≡ Some (re
 passing : (program : MidProgram) (m : Machine) (h : IsMachine program m) (line : ℕ) (mid : Mid) → Stands program m h line mid → is_turn (Some (record { line = line; mid = mid })) ≡ false → to_turn program (record m.top { place = m.top.place + 1 }) < to_turn program m.top
 passing program m h line mid at other = at_nearer program m h (m.top.place + 1) (ap is_turn at ∙ other) (inl (omega arith))
 
-top_nearer : (program : MidProgram) (m : Machine) (a : Activation) → to_turn program a < to_turn program m.top → left_to_go program (record m { top = a }) < left_to_go program m
+pub top_nearer : (program : MidProgram) (m : Machine) (a : Activation) → to_turn program a < to_turn program m.top → left_to_go program (record m { top = a }) < left_to_go program m
 top_nearer program m a near = omega (arith, near)
 
 gives_nears : (program : MidProgram) (m : Machine) (target line : ℕ) (r : Result ℕ Trap) → to_turn program (record m.top { place = m.top.place + 1 }) < to_turn program m.top → Nears program m (gives target line m r)
@@ -87,7 +86,7 @@ either_nears program m true target taken not_taken = top_nearer program m (recor
 either_nears program m false target taken not_taken = top_nearer program m (record m.top { place = m.top.place + 1 }) not_taken
 
 -- an activation has at most 65,535 instructions before it
-few_to_turn : (program : MidProgram) (a : Activation) (f : MidFunction) → IsValid program → function_at program a.function ≡ Some f → to_turn program a ≤ 65535
+pub few_to_turn : (program : MidProgram) (a : Activation) (f : MidFunction) → IsValid program → function_at program a.function ≡ Some f → to_turn program a ≤ 65535
 few_to_turn program a f valid found =
     let k = function_kept program a.function f valid found in
     let e : to_turn program a ≡ to_turn_in (Some f) a.place = ap (λ g. to_turn_in g a.place) found in
@@ -114,7 +113,7 @@ calls_nears program m number into (Some f) values valid found near =
     let callee = activation_of number f into values in
     if_nears program m ((budget_of part m).depth == 0) (Traps Depth f.line) (if (budget_of part m).turns == 0 then Traps Turns f.line else Goes (entered part callee m)) (λ _. tt)
     (λ _. if_nears program m ((budget_of part m).turns == 0) (Traps Turns f.line) (Goes (entered part callee m)) (λ _. tt)
-      (λ some. entered_nearer program m part callee (few_to_turn program callee f valid found) (at_least_one (budget_of part m).turns some) near))
+    (λ some. entered_nearer program m part callee (few_to_turn program callee f valid found) (at_least_one (budget_of part m).turns some) near))
 
 -- the caller goes on where it stands
 left_nearer : (program : MidProgram) (m : Machine) (part : Part) (caller after : Activation) (rest : List Activation) → m.below ≡ caller ∷ rest → to_turn program after ≡ to_turn program caller → 1 ≤ to_turn program m.top →
@@ -159,8 +158,8 @@ act_nears program m h (CallPtr target callee ty args) line valid k at =
     let value = register m callee in
     if_nears program m (value == 0) (Traps NullPointer line) (if is_callee program ty value then calls program value (function_at program value) target (arguments m args) m else Traps NotAFunction line) (λ _. tt)
     (λ _. if_nears program m (is_callee program ty value) (calls program value (function_at program value) target (arguments m args) m) (Traps NotAFunction line)
-      (λ _. calls_nears program m value target (function_at program value) (arguments m args) valid refl (passing program m h line (CallPtr target callee ty args) at refl))
-      (λ _. tt))
+    (λ _. calls_nears program m value target (function_at program value) (arguments m args) valid refl (passing program m h line (CallPtr target callee ty args) at refl))
+    (λ _. tt))
 act_nears program m h (Return source) line valid k at =
     let near = passing program m h line (Return source) at refl in
     leaves_nears program m (part_of_function program m.top.function) (register m source) m.below refl (omega (arith, near))

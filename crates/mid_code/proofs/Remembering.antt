@@ -1,14 +1,13 @@
 -- Memory keeps its numbers and its values through each access.
-use Rattle.std.proofs.Common.{◌≡◌, ℕ, zero, suc, ◌+◌, ◌-◌, ◌*◌, ◌/◌, ◌<◌, ◌≤◌, ◌^◌, List, [], ◌∷◌, ◌++◌, length, Option, Some, None, Result, Ok, Err, Bool, true, false, refl, sym, ap, ◌∙◌, subst, arith}
-use Rattle.std.specs.Prelude.{All, IfOk, ◌&&◌, ◌||◌, not, ◌==◌, nat_lt, nat_le, if◌then◌else◌, map, filter, find, sum_by, replicate, slice_index, slice_set}
-use Rattle.std.proofs.lemmas.Bool.{ltb-false}
-use Rattle.std.proofs.lemmas.List.{length-set, length-map, length-append, length-replicate}
+use Rattle.std.proofs.Common.{◌≡◌, ℕ, ◌+◌, ◌≤◌, List, [], ◌∷◌, ◌++◌, length, Option, Some, None, Result, Ok, Err, Bool, true, false, refl, subst, arith}
+use Rattle.std.specs.Prelude.{All, IfOk, ◌&&◌, not, ◌==◌, nat_le, if◌then◌else◌, map, filter, find, sum_by, replicate, slice_index, slice_set}
+use Rattle.std.proofs.lemmas.List.{length-set, length-replicate}
 use Rattle.std.proofs.lemmas.List.Sums.{sum_by-cons, sum_by-append}
 use Rattle.std.proofs.lemmas.List.Elements.{All-filter, All-set, All-map, All-push, All-replicate, All-head, All-tail}
 use Rattle.srmt_base.specs.declared.trap.Trap.{Trap}
-use Rattle.srmt_base.specs.declared.trap.Trap.TheVariants.{NullPointer, OutsideObject, DeadObject, ReadOnly, Store}
-use Rattle.srmt_base.specs.Objects.{Object, Objects, pointer_to, object_part, offset_part, live_at, access_in, access_of, if_passed, written_in, written, load_of, put_of, begun, add_of, end_of, live_cells}
-use Rattle.srmt_base.specs.Memory.{Memory, Part, Protected, Binary, first_number, last_number, objects_of, with_objects, part_of_number, part_of, changed, read_of, write_of, next_number, begin_of, finish_of}
+use Rattle.srmt_base.specs.declared.trap.Trap.TheVariants.{NullPointer, OutsideObject, ReadOnly}
+use Rattle.srmt_base.specs.Objects.{Object, Objects, object_part, offset_part, live_at, access_in, access_of, if_passed, written_in, written, begun, end_of, live_cells}
+use Rattle.srmt_base.specs.Memory.{Memory, Part, Protected, Binary, first_number, last_number, objects_of, part_of, read_of}
 use Rattle.mid_code.specs.Fits.{IsValue, HoldsValues, AreRising, IsPart, IsMemory}
 use Rattle.mid_code.proofs.Values.{read_small}
 
@@ -35,9 +34,9 @@ passed_object P writes s pointer object all h =
         elim (nat_le (length o.cells) (offset_part pointer)) as (λ b. (if b then Err OutsideObject else (if writes && o.read_only then Err ReadOnly else Ok o)) ≡ Ok object → P object) [
           | true ↦ λ e. absurd (cc)
           | false ↦ λ e. (elim (writes && o.read_only) as (λ c. (if c then Err ReadOnly else Ok o) ≡ Ok object → P object) [
-              | true ↦ λ f. absurd (cc)
-              | false ↦ λ f. (let same : o ≡ object = cc in subst P same (found_too P (λ (x : Object). x.number == object_part pointer) s.live o all at))
-            ] e)
+            | true ↦ λ f. absurd (cc)
+            | false ↦ λ f. (let same : o ≡ object = cc in subst P same (found_too P (λ (x : Object). x.number == object_part pointer) s.live o all at))
+          ] e)
         ] e
 
 -- what is read is a value

@@ -1,21 +1,16 @@
 -- A machine stands within its program after each change that an instruction makes to it.
-use Rattle.std.proofs.Common.{◌≡◌, ℕ, zero, suc, ◌+◌, ◌-◌, ◌<◌, ◌≤◌, ◌^◌, List, [], ◌∷◌, length, Option, Some, None, refl, sym, ap, ◌∙◌, subst, arith}
-use Rattle.std.specs.Prelude.{All, slice_set}
-use Rattle.std.proofs.lemmas.List.{length-set}
-use Rattle.std.proofs.lemmas.List.Elements.{All-set}
+use Rattle.std.proofs.Common.{◌≡◌, ◌+◌, ◌-◌, ◌<◌, ◌≤◌, List, [], ◌∷◌, length, sym, ap, ◌∙◌, subst, arith}
 use Rattle.srmt_base.specs.Memory.{Part, Protected, Binary}
 use Rattle.mid_code.specs.declared.program.MidProgram.{MidProgram}
-use Rattle.mid_code.specs.declared.program.MidFunction.{MidFunction}
-use Rattle.mid_code.specs.Program.{function_at}
-use Rattle.mid_code.specs.Machine.{Activation, Budget, Machine, activations, live_of, one_if, budget_of, with_budget, spent, part_of_function, entered, given}
-use Rattle.mid_code.specs.Fits.{IsValue, IsWithin, AreBelow, IsLeft, IsMachine}
+use Rattle.mid_code.specs.Machine.{Activation, Machine, live_of, one_if, budget_of, with_budget, spent, part_of_function}
+use Rattle.mid_code.specs.Fits.{IsWithin, AreBelow, IsMachine}
 
 -- the activations below one, where it changes neither its function nor the register for its result
 pub below_same : (program : MidProgram) (a b : Activation) (rest : List Activation) → a.function ≡ b.function → a.into ≡ b.into → AreBelow program a rest → AreBelow program b rest
 below_same program a b [] function into h = sym function ∙ h
 below_same program a b (caller ∷ rest) function into h = (subst (λ r. r < length caller.registers) into h.0, h.1, h.2)
 
-live_same : (program : MidProgram) (part : Part) (a b : Activation) (rest : List Activation) → a.function ≡ b.function → live_of program part (a ∷ rest) ≡ live_of program part (b ∷ rest)
+pub live_same : (program : MidProgram) (part : Part) (a b : Activation) (rest : List Activation) → a.function ≡ b.function → live_of program part (a ∷ rest) ≡ live_of program part (b ∷ rest)
 live_same program part a b rest e = ap (λ f. one_if part (part_of_function program f) + live_of program part rest) e
 
 -- only the newest activation changes
@@ -53,7 +48,7 @@ turn_counted program m Binary a h function into within =
     }
 
 -- one live activation more
-live_more : (program : MidProgram) (part own : Part) (a : Activation) (rest : List Activation) → part_of_function program a.function ≡ own → live_of program part (a ∷ rest) ≡ one_if part own + live_of program part rest
+pub live_more : (program : MidProgram) (part own : Part) (a : Activation) (rest : List Activation) → part_of_function program a.function ≡ own → live_of program part (a ∷ rest) ≡ one_if part own + live_of program part rest
 live_more program part own a rest e = ap (λ p. one_if part p + live_of program part rest) e
 
 -- a function is entered

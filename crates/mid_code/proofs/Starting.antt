@@ -1,6 +1,6 @@
 -- The start of a run fits its program.
-use Rattle.std.proofs.Common.{◌≡◌, ℕ, zero, suc, ◌+◌, ◌-◌, ◌<◌, ◌≤◌, ◌^◌, List, [], ◌∷◌, ◌++◌, length, Option, Some, None, Bool, true, false, refl, sym, ap, ◌∙◌, subst, arith}
-use Rattle.std.specs.Prelude.{All, ◌==◌, ◌&&◌, ◌||◌, nat_lt, nat_le, replicate, slice_index, sum_by}
+use Rattle.std.proofs.Common.{◌≡◌, ℕ, zero, suc, ◌+◌, ◌-◌, ◌<◌, ◌≤◌, ◌^◌, List, [], ◌∷◌, length, Option, Some, None, false, refl, sym, ap, subst, arith}
+use Rattle.std.specs.Prelude.{All, ◌==◌, ◌||◌, nat_lt, nat_le, replicate, sum_by}
 use Rattle.std.specs.List.{list_any}
 use Rattle.std.proofs.lemmas.Bool.{ltb-false, leb-false, le-leb, eqb-false}
 use Rattle.std.proofs.lemmas.List.{length-append, length-replicate}
@@ -118,7 +118,7 @@ main_within program f valid found =
     }
 
 -- `main` is a function of the main file
-main_part : (program : MidProgram) → KeepsProgram program → part_of_function program program.main ≡ Protected
+pub main_part : (program : MidProgram) → KeepsProgram program → part_of_function program program.main ≡ Protected
 main_part program k = ap part_if (le-leb program.main program.main_functions k.main)
 
 -- the machine at the start, with `main` on top

@@ -1,8 +1,8 @@
 -- Registers and cells hold numbers of 44 bits.
-use Rattle.std.proofs.Common.{◌≡◌, ℕ, ◌+◌, ◌-◌, ◌<◌, ◌≤◌, ◌^◌, List, [], ◌∷◌, length, Option, Some, None, Result, Ok, Err, inl, inr, refl, sym, ap, ◌∙◌, subst, arith}
-use Rattle.std.specs.Prelude.{All, IfOk, map, replicate, ◌++◌, slice_index, slice_set, slice_get}
+use Rattle.std.proofs.Common.{◌≡◌, ℕ, ◌-◌, ◌<◌, ◌≤◌, ◌^◌, List, length, Some, Result, Ok, Err, inl, inr, subst, arith}
+use Rattle.std.specs.Prelude.{All, IfOk, map, replicate, ◌++◌, slice_index, slice_get}
 use Rattle.std.proofs.lemmas.Bool.{cases_lt}
-use Rattle.std.proofs.lemmas.List.{length-append, length-replicate, length-map}
+use Rattle.std.proofs.lemmas.List.{length-append, length-replicate}
 use Rattle.std.proofs.lemmas.List.Elements.{All-append, All-replicate, All-map}
 use Rattle.std.proofs.lemmas.Option.{slice_get_cases, slice_get_within, get_or_from_slice_get}
 use Rattle.std.proofs.Math.ListN.{get_or-eq_default}
@@ -40,6 +40,7 @@ wider bound (Err trap) small h = tt
 
 -- the first registers of a function hold its arguments, and the others 0
 pub first_registers : (values : List ℕ) (count : ℕ) → length values ≤ count → All IsValue values → (length (values ++ replicate (count - length values) 0) ≡ count) × All IsValue (values ++ replicate (count - length values) 0)
-first_registers values count room all =
-    (omega (arith, length-append values (replicate (count - length values) 0), length-replicate {A = ℕ} (count - length values) 0),
-    All-append IsValue values (replicate (count - length values) 0) all (All-replicate IsValue (count - length values) 0 (omega arith)))
+first_registers values count room all = (
+  omega (arith, length-append values (replicate (count - length values) 0), length-replicate {A = ℕ} (count - length values) 0),
+  All-append IsValue values (replicate (count - length values) 0) all (All-replicate IsValue (count - length values) 0 (omega arith)),
+)

@@ -2,6 +2,7 @@ pub mod Program
 pub mod Registers
 pub mod Operands
 pub mod Flow
+pub mod Row
 pub mod Rules
 pub mod Valid
 pub mod Machine
@@ -13,3 +14,5 @@ pub mod Start
 pub mod Bounds
 pub mod Meaning
 pub mod Keeps
+pub mod Counting
+pub mod Laws

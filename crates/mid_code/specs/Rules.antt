@@ -20,7 +20,8 @@ use Rattle.mid_code.specs.declared.mid.Mid.{Mid}
 use Rattle.mid_code.specs.declared.mid.Mid.TheVariants.{Const, Move, Arith, PtrAdd, PtrDiff, PtrCmp, GlobAddr, FunAddr, Open, Close, Jump, JumpZ, JumpN, Turn, Call, CallPtr, Return, Exit}
 use Rattle.mid_code.specs.Registers.{registers_list}
 use Rattle.mid_code.specs.Program.{function_at}
-use Rattle.mid_code.specs.Operands.{Operand, operands}
+use Rattle.mid_code.specs.declared.operands.Operand.{Operand}
+use Rattle.mid_code.specs.Operands.{operands}
 use Rattle.mid_code.specs.Flow.{breaks_order}
 
 -- two kinds are the same
@@ -129,12 +130,13 @@ mixes_kinds kinds (Move target source) = is_of_other_kind (slice_get kinds targe
 mixes_kinds kinds _ = false
 
 -- Rule 5
+abbrev pub counts_turn : Mid → Bool
+counts_turn Turn = true
+counts_turn _ = false
+
 abbrev pub is_turn : Option MidLine → Bool
 is_turn None = false
-is_turn (Some l) = is_turn_mid l.mid where
-  is_turn_mid : Mid → Bool
-  is_turn_mid Turn = true
-  is_turn_mid _ = false
+is_turn (Some l) = counts_turn l.mid
 
 abbrev pub is_bad_target : List MidLine → ℕ → ℕ → Bool
 is_bad_target code place target = nat_le (length code) target || (nat_le target place && not (is_turn (slice_get code target)))
@@ -190,17 +192,30 @@ abbrev pub misfits_params : MidFunction → Option FunType → Bool
 misfits_params function None = false
 misfits_params function (Some type) = not (starts_with_kinds function.kinds type.params)
 
--- the least rule that an instruction breaks at its place
-unfoldable pub instruction_rule : MidProgram → ℕ → MidFunction → ℕ → Mid → Option ℕ
-instruction_rule program number function place mid =
-    if is_beyond mid then Some 1
-    else if has_outside function.kinds (operands mid) || names_nothing program mid then Some 3
-    else if has_other_kind function.kinds (operands mid) || mixes_kinds function.kinds mid then Some 4
-    else if jumps_wrongly function.code place mid then Some 5
-    else if runs_out function.code place mid then Some 6
-    else if misfits program number function mid || (place == 0 && misfits_params function (slice_get program.types function.ty)) then Some 7
-    else if breaks_order function.code place mid then Some 8
+-- the number of the least rule that is broken, by which of them are: 1, 3, 4, 5, 6 and 7
+abbrev pub least_rule : Bool → Bool → Bool → Bool → Bool → Bool → Option ℕ
+least_rule one three four five six seven =
+    if one then Some 1
+    else if three then Some 3
+    else if four then Some 4
+    else if five then Some 5
+    else if six then Some 6
+    else if seven then Some 7
     else None
+
+-- the least of these that an instruction breaks at its place. A function's parameters count with its first instruction
+unfoldable pub early_rule : MidProgram → ℕ → MidFunction → ℕ → Mid → Option ℕ
+early_rule program number function place mid =
+    least_rule (is_beyond mid) (has_outside function.kinds (operands mid) || names_nothing program mid) (has_other_kind function.kinds (operands mid) || mixes_kinds function.kinds mid)
+    (jumps_wrongly function.code place mid) (runs_out function.code place mid) (misfits program number function mid || (place == 0 && misfits_params function (slice_get program.types function.ty)))
+
+-- and where it breaks none of them, rule 8
+abbrev pub or_order : Option ℕ → Bool → Option ℕ
+or_order (Some rule) breaks = Some rule
+or_order None breaks = if breaks then Some 8 else None
+
+abbrev pub instruction_rule : MidProgram → ℕ → MidFunction → ℕ → Mid → Option ℕ
+instruction_rule program number function place mid = or_order (early_rule program number function place mid) (breaks_order function.code place mid)
 
 abbrev pub line_rule : MidProgram → ℕ → MidFunction → ℕ → Option MidLine → Option ℕ
 line_rule program number function place None = None

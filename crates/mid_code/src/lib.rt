@@ -8,17 +8,22 @@
 
 mod access;
 mod class;
+mod flow;
 mod laws;
+mod limits;
 mod mid;
+mod operands;
 mod pair;
 mod program;
 mod refusal;
 mod registers;
+mod rules;
+mod valid;
 mod version;
 
 pub use access::Access;
 pub use class::Class;
-pub use laws::is_determined;
+pub use laws::{budgets_are_exact, is_bounded, is_determined, is_never_stuck, values_stay_small};
 pub use mid::Mid;
 pub use pair::{Classed, Pair};
 pub use program::{FunType, MidFunction, MidLine, MidProgram, RegisterKind, Static};

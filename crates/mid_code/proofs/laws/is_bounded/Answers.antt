@@ -1,0 +1,5 @@
+use Rattle.mid_code.proofs.Bounding.{short}
+use Rattle.mid_code.proofs.laws.is_bounded.Goals as goal
+
+pub returns : goal.returns
+returns c = short

@@ -1,0 +1,72 @@
+-- What each instruction counts against the budgets of turns and of live activations, as far as a run has come.
+use Rattle.std.specs.Prelude.{◌≡◌, ℕ, zero, suc, ◌+◌, ◌<◌, ◌≤◌, ◌↔◌, ◌⊎◌, if◌then◌else◌, [], Option, Some, None}
+use Rattle.srmt_base.specs.declared.limits.Limits.{Limits}
+use Rattle.srmt_base.specs.declared.trap.SourceEnd.TheVariants.{Trap as TrapEnd}
+use Rattle.srmt_base.specs.declared.trap.Trap.TheVariants.{Turns, Depth}
+use Rattle.srmt_base.specs.Memory.{Part, Protected}
+use Rattle.mid_code.specs.declared.program.MidFunction.{MidFunction}
+use Rattle.mid_code.specs.declared.program.MidLine.{MidLine}
+use Rattle.mid_code.specs.declared.program.MidProgram.{MidProgram}
+use Rattle.mid_code.specs.declared.mid.Mid.{Mid}
+use Rattle.mid_code.specs.declared.mid.Mid.TheVariants.{Turn, Call, CallPtr}
+use Rattle.mid_code.specs.Program.{function_at, line_at}
+use Rattle.mid_code.specs.Machine.{Machine, register, activations, one_if, live_of, part_of_function, is_callee}
+use Rattle.mid_code.specs.Meaning.{State, Step, On, Ends, Stuck, step}
+
+pub data Counting : Type 0 where
+  Uncounted : Counting
+  -- a turn of a part
+  OneTurn : (part : Part) (line : ℕ) → Counting
+  -- a live activation of a part, and a turn of it; the line is that of the function's name
+  OneActivation : (part : Part) (line : ℕ) → Counting
+
+-- the function that is entered, if it is there
+abbrev pub entry_of : MidProgram → ℕ → Option MidFunction → Counting
+entry_of program number None = Uncounted
+entry_of program number (Some code) = OneActivation (part_of_function program number) code.line
+
+abbrev pub counting_of : MidProgram → Mid → ℕ → Machine → Counting
+counting_of program Turn line m = OneTurn (part_of_function program m.top.function) line
+counting_of program (Call target function args) line m = entry_of program function (function_at program function)
+counting_of program (CallPtr target callee ty args) line m =
+    if is_callee program ty (register m callee) then entry_of program (register m callee) (function_at program (register m callee)) else Uncounted
+counting_of program _ line m = Uncounted
+
+abbrev pub counting_at : MidProgram → Option MidLine → Machine → Counting
+counting_at program None m = Uncounted
+counting_at program (Some l) m = counting_of program l.mid l.line m
+
+-- what the next instruction counts
+abbrev pub next_counting : MidProgram → Machine → Counting
+next_counting program m = counting_at program (line_at program m.top.function m.top.place) m
+
+-- how many turns of a part that is
+abbrev pub turns_of : Part → Counting → ℕ
+turns_of part Uncounted = 0
+turns_of part (OneTurn own line) = one_if part own
+turns_of part (OneActivation own line) = one_if part own
+
+abbrev pub after_step : Step → (State → ℕ) → ℕ
+after_step (On next events) rest = rest next
+after_step (Ends end events) rest = 0
+after_step Stuck rest = 0
+
+-- how many turns of a part so many steps count
+abbrev pub turns_in : MidProgram → Part → ℕ → State → ℕ
+turns_in program part zero s = 0
+turns_in program part (suc more) s = turns_of part (next_counting program s.machine) + after_step (step program s) (turns_in program part more)
+
+-- and with the turn of `main`
+abbrev pub turns_so_far : MidProgram → Part → ℕ → State → ℕ
+turns_so_far program part steps s = one_if part Protected + turns_in program part steps s
+
+-- a budget trap comes exactly where one more unit would pass the limit; of both, that of the activations comes first
+pub record CountsExactly (program : MidProgram) (limits : Limits) (turns : Part → ℕ) (s : State) : Type 0 where
+  pub turns_within : (part : Part) → turns part ≤ limits.turns
+  pub depth_within : (part : Part) → live_of program part (activations s.machine) ≤ limits.depth
+  pub depth_trap : (line : ℕ) → (step program s ≡ Ends (TrapEnd Depth line) []) ↔
+      ((part : Part) × (next_counting program s.machine ≡ OneActivation part line) × (live_of program part (activations s.machine) ≡ limits.depth))
+  pub turns_trap : (line : ℕ) → (step program s ≡ Ends (TrapEnd Turns line) []) ↔
+      ((part : Part) × (turns part ≡ limits.turns)
+      × ((next_counting program s.machine ≡ OneTurn part line)
+      ⊎ ((next_counting program s.machine ≡ OneActivation part line) × (live_of program part (activations s.machine) < limits.depth))))
