@@ -9,3 +9,4 @@ mod act;
 mod frames;
 mod memory;
 mod reach;
+mod statics;
