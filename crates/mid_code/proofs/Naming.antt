@@ -12,7 +12,7 @@ use Rattle.mid_code.specs.declared.program.FunType.{FunType}
 use Rattle.mid_code.specs.declared.program.MidFunction.{MidFunction}
 use Rattle.mid_code.specs.declared.program.MidProgram.{MidProgram}
 use Rattle.mid_code.specs.Program.{function_at}
-use Rattle.mid_code.specs.Operands.{Operand}
+use Rattle.mid_code.specs.declared.operands.Operand.{Operand}
 use Rattle.mid_code.specs.Rules.{is_bad_static, has_bad_statics, has_large_type, has_bad_parts, has_bad_type, is_number_alone, is_static, is_callable, has_outside, same_kind, is_of_kind, are_of_kinds, misfits_type}
 use Rattle.mid_code.specs.Valid.{IsValid}
 use Rattle.mid_code.proofs.Keeping.{neither, keeps_function, keeps_program}
