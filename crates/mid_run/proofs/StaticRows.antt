@@ -8,7 +8,7 @@ use Rattle.std.proofs.lemmas.List.Elements.{All-take}
 use Rattle.std.proofs.lemmas.Nat.{div-mul-add, div-add-mod'}
 use Rattle.srmt_base.specs.declared.trap.Trap.{Trap}
 use Rattle.srmt_base.specs.Objects.{Object, Objects, object_part, offset_part, live_at, live_cells, access_in, access_of, written_in, written, set_up_of, add_of, begun}
-use Rattle.srmt_base.specs.Memory.{Part, Protected, Binary, first_number}
+use Rattle.srmt_base.specs.Memory.{Part, part_if, first_number}
 use Rattle.mid_code.specs.declared.program.Static.{Static}
 use Rattle.mid_code.specs.Start.{static_cells, static_object, static_objects, started_objects}
 use Rattle.mid_run.specs.Statics.{IsSound, with_static}
@@ -19,13 +19,13 @@ not_among [] object number below is = ap (λ b. cond b (Some object) None) (eq-e
 not_among (first ∷ objects) object number below is =
     let other : eqb first.number number ≡ false = ne_eqb first.number number (λ e. absurd (omega (arith, below 0 first (omega arith)))) in
     ap (λ b. cond b (Some first) (find (λ o. o.number == number) (objects ++ object ∷ []))) other
-    ∙ not_among objects object number (λ k d h. below (k + 1) d (omega arith)) is
+    ∙ not_among objects object number (λ k d h. below (suc k) d (omega arith)) is
 
 unwritten : (objects : List Object) (pointer value number : ℕ) → All (λ o. o.number < number) objects → object_part pointer ≡ number → map (written_in pointer value) objects ≡ objects
 unwritten [] pointer value number below is = refl
 unwritten (first ∷ objects) pointer value number below is =
     let other : eqb first.number (object_part pointer) ≡ false = ne_eqb first.number (object_part pointer) (λ e. absurd (omega (arith, below 0 first (omega arith), is))) in
-    let rest : map (written_in pointer value) objects ≡ objects = unwritten objects pointer value number (λ k d h. below (k + 1) d (omega arith)) is in
+    let rest : map (written_in pointer value) objects ≡ objects = unwritten objects pointer value number (λ k d h. below (suc k) d (omega arith)) is in
     rw (other, rest) refl
 
 -- a value more is set up
@@ -42,7 +42,8 @@ cells_long : (values : List ℕ) (cells i : ℕ) → i ≤ length values → len
 cells_long values cells i within fits =
     let a = length-append (take i values) (replicate (cells - i) 0) in
     let b : length (take i values) ≡ i = length-take-le i values within in
-    let c : length (replicate (cells - i) 0) ≡ cells - i = length-replicate (cells - i) 0 in
+    let zeros : List ℕ = replicate (cells - i) 0 in
+    let c : length zeros ≡ cells - i = length-replicate (cells - i) 0 in
     omega (arith, a, b, c)
 
 offset_is : (number i : ℕ) → i < 65536 → (number * 65536 + i) % 65536 ≡ i
@@ -90,10 +91,11 @@ objects_below (x ∷ xs) number (suc k) d h = omega (arith, objects_below xs (nu
 objects_long : (statics : List Static) (number : ℕ) → All IsSound statics → sum_by (λ (o : Object). length o.cells) (static_objects number statics) ≡ static_cells statics
 objects_long [] number sound = refl
 objects_long (x ∷ xs) number sound =
-    let rest = objects_long xs (number + 1) (λ k d h. sound (k + 1) d (omega arith)) in
+    let rest = objects_long xs (number + 1) (λ k d h. sound (suc k) d (omega arith)) in
     let this = sound 0 x (omega arith) in
     let a = length-append x.values (replicate (x.cells - length x.values) 0) in
-    let b : length (replicate (x.cells - length x.values) 0) ≡ x.cells - length x.values = length-replicate (x.cells - length x.values) 0 in
+    let zeros : List ℕ = replicate (x.cells - length x.values) 0 in
+    let b : length zeros ≡ x.cells - length x.values = length-replicate (x.cells - length x.values) 0 in
     let long : length (x.values ++ replicate (x.cells - length x.values) 0) ≡ x.cells = omega (arith, a, b, this.values) in
     rw (sum_by-cons, sum_by-cons) (omega (arith, rest, long))
 
@@ -135,3 +137,11 @@ started_more part statics cells i d within =
     let len : length (take i statics ++ get_or statics i d ∷ []) ≡ i + 1 = length-append (take i statics) (get_or statics i d ∷ []) ∙ omega (arith, front) in
     let count : first_number part + i + 1 ≡ first_number part + (i + 1) = omega arith in
     rw (next, push, len, whole, count) refl
+
+-- there are no more static objects than cells
+pub few_statics : (statics : List Static) → All IsSound statics → length statics ≤ static_cells statics
+few_statics [] sound = omega arith
+few_statics (x ∷ xs) sound =
+    let rest = few_statics xs (λ k d h. sound (suc k) d (omega arith)) in
+    let this = sound 0 x (omega arith) in
+    rw sum_by-cons (omega (arith, rest, this.some))

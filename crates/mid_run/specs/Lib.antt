@@ -1,3 +1,5 @@
+pub mod Progress
+pub mod View
 pub mod Kept
 pub mod Acts
 pub mod Reaching

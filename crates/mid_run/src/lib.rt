@@ -9,4 +9,7 @@ mod act;
 mod frames;
 mod memory;
 mod reach;
+mod run;
 mod statics;
+
+pub use run::MidRun;
