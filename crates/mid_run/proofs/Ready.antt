@@ -12,9 +12,11 @@ use Rattle.mid_code.specs.declared.program.MidProgram.{MidProgram}
 use Rattle.mid_code.specs.declared.registers.Registers.{Registers}
 use Rattle.mid_code.specs.declared.mid.Mid.{Mid}
 use Rattle.mid_code.specs.declared.mid.Mid.TheVariants.{Const, Move, Arith, Conv, PtrAdd, PtrDiff, PtrCmp, GlobAddr, FunAddr, Load, Store, VLoad, VStore, Open, Close, Jump, JumpZ, JumpN, Turn, Call, CallPtr, Return, Put, Get, Exit}
+use Rattle.mid_code.specs.declared.access.Access.TheVariants.{Closes}
 use Rattle.mid_code.specs.Registers.{registers_list}
 use Rattle.mid_code.specs.Program.{function_at}
-use Rattle.mid_code.specs.Operands.{Operand, either, number, operands}
+use Rattle.mid_code.specs.declared.operands.Operand.{Operand}
+use Rattle.mid_code.specs.Operands.{either, number, address, operands}
 use Rattle.mid_code.specs.Rules.{has_outside, is_static, is_callable, is_wide, misfits_type, type_of}
 use Rattle.mid_code.specs.Valid.{IsValid}
 use Rattle.mid_code.specs.Machine.{Opened, Activation, Machine, Does, Goes, Traps, Reaches, Lost, register, part_of_function, is_of_type, is_callee, leaves, closes, act}
@@ -90,7 +92,7 @@ newest_named : (program : MidProgram) (m : Machine) (place line : ℕ) (opened :
 newest_named program m place line [] fits = fits
 newest_named program m place line (newest ∷ older) fits = by_test (newest.place == place) refl fits
   where
-    by_test : (b : Bool) → (newest.place == place) ≡ b → DoesFit program m (if b then Reaches _ line else Lost) → newest.place ≡ place
+    by_test : (b : Bool) → (newest.place == place) ≡ b → DoesFit program m (if b then Reaches (Closes newest.number) line else Lost) → newest.place ≡ place
     by_test true e fits = eqb-true newest.place place e
     by_test false e fits = absurd fits
 
@@ -101,30 +103,30 @@ result_taken program m value (caller ∷ rest) below fits = below.0
 
 -- one case for each instruction
 pub can_act : (program : MidProgram) (m : Machine) (h : IsMachine program m) (mid : Mid) (line : ℕ) → IsValid program → Keeps program m.top h.top mid → DoesFit program m (act program mid line m) → CanAct program mid m
-can_act program m h (Const target value) line valid k fits = (one_there _ _ _ h.top.registers k.registers, leb-false (2 ^ 44) value k.bounded)
-can_act program m h (Move target source) line valid k fits = two_there _ _ _ _ h.top.registers k.registers
+can_act program m h (Const target value) line valid k fits = (one_there _ _ (either target) h.top.registers k.registers, leb-false (2 ^ 44) value k.bounded)
+can_act program m h (Move target source) line valid k fits = two_there _ _ (either target) (either source) h.top.registers k.registers
 can_act program m h (Arith op ty target left right) line valid k fits =
-    let r = three_there _ _ _ _ _ h.top.registers k.registers in
+    let r = three_there _ _ (number target) (number left) (number right) h.top.registers k.registers in
     (r.0, r.1, r.2, wide ty k.names)
-can_act program m h (Conv from to target source) line valid k fits = two_there _ _ _ _ h.top.registers k.registers
-can_act program m h (PtrAdd target pointer index ty negated scale) line valid k fits = three_there _ _ _ _ _ h.top.registers k.registers
+can_act program m h (Conv from to target source) line valid k fits = two_there _ _ (number target) (number source) h.top.registers k.registers
+can_act program m h (PtrAdd target pointer index ty negated scale) line valid k fits = three_there _ _ (address target) (address pointer) (number index) h.top.registers k.registers
 can_act program m h (PtrDiff target left right scale) line valid k fits =
-    let r = three_there _ _ _ _ _ h.top.registers k.registers in
+    let r = three_there _ _ (number target) (address left) (address right) h.top.registers k.registers in
     (r.0, r.1, r.2, some scale k.names)
 can_act program m h (PtrCmp op target left right) line valid k fits =
-    let r = three_there _ _ _ _ _ h.top.registers k.registers in
+    let r = three_there _ _ (number target) (address left) (address right) h.top.registers k.registers in
     (r.0, r.1, r.2, not-false (is_comparison op) k.names)
-can_act program m h (GlobAddr target object) line valid k fits = (one_there _ _ _ h.top.registers k.registers, static_small program object valid (not-false (is_static program object) k.names))
-can_act program m h (FunAddr target function) line valid k fits = one_there _ _ _ h.top.registers k.registers
-can_act program m h (Load target pointer) line valid k fits = two_there _ _ _ _ h.top.registers k.registers
-can_act program m h (Store pointer source) line valid k fits = two_there _ _ _ _ h.top.registers k.registers
-can_act program m h (VLoad target pointer) line valid k fits = two_there _ _ _ _ h.top.registers k.registers
-can_act program m h (VStore pointer source) line valid k fits = two_there _ _ _ _ h.top.registers k.registers
-can_act program m h (Open target cells) line valid k fits = (one_there _ _ _ h.top.registers k.registers, some cells k.bounded)
+can_act program m h (GlobAddr target object) line valid k fits = (one_there _ _ (address target) h.top.registers k.registers, static_small program object valid (not-false (is_static program object) k.names))
+can_act program m h (FunAddr target function) line valid k fits = one_there _ _ (number target) h.top.registers k.registers
+can_act program m h (Load target pointer) line valid k fits = two_there _ _ (either target) (address pointer) h.top.registers k.registers
+can_act program m h (Store pointer source) line valid k fits = two_there _ _ (address pointer) (either source) h.top.registers k.registers
+can_act program m h (VLoad target pointer) line valid k fits = two_there _ _ (either target) (address pointer) h.top.registers k.registers
+can_act program m h (VStore pointer source) line valid k fits = two_there _ _ (address pointer) (either source) h.top.registers k.registers
+can_act program m h (Open target cells) line valid k fits = (one_there _ _ (address target) h.top.registers k.registers, some cells k.bounded)
 can_act program m h (Close place) line valid k fits = newest_named program m place line m.top.opened fits
 can_act program m h (Jump place) line valid k fits = tt
-can_act program m h (JumpZ source place) line valid k fits = one_there _ _ _ h.top.registers k.registers
-can_act program m h (JumpN source place) line valid k fits = one_there _ _ _ h.top.registers k.registers
+can_act program m h (JumpZ source place) line valid k fits = one_there _ _ (either source) h.top.registers k.registers
+can_act program m h (JumpN source place) line valid k fits = one_there _ _ (either source) h.top.registers k.registers
 can_act program m h Turn line valid k fits = tt
 can_act program m h (Call target function args) line valid k fits =
     let first = there _ _ (either target) (map either (registers_list args)) h.top.registers k.registers in
@@ -133,7 +135,7 @@ can_act program m h (CallPtr target callee ty args) line valid k fits =
     let first = there _ _ (either target) (number callee ∷ map either (registers_list args)) h.top.registers k.registers in
     let second = there _ _ (number callee) (map either (registers_list args)) h.top.registers first.1 in
     (first.0, second.0, all_there _ _ (registers_list args) h.top.registers second.1, λ callable. enter_callee program h.top.code.kinds target ty (register m callee) (registers_list args) valid k.fits callable)
-can_act program m h (Return source) line valid k fits = (one_there _ _ _ h.top.registers k.registers, result_taken program m (register m source) m.below h.below fits)
-can_act program m h (Put source) line valid k fits = one_there _ _ _ h.top.registers k.registers
-can_act program m h (Get target) line valid k fits = one_there _ _ _ h.top.registers k.registers
-can_act program m h (Exit source) line valid k fits = one_there _ _ _ h.top.registers k.registers
+can_act program m h (Return source) line valid k fits = (one_there _ _ (either source) h.top.registers k.registers, result_taken program m (register m source) m.below h.below fits)
+can_act program m h (Put source) line valid k fits = one_there _ _ (number source) h.top.registers k.registers
+can_act program m h (Get target) line valid k fits = one_there _ _ (number target) h.top.registers k.registers
+can_act program m h (Exit source) line valid k fits = one_there _ _ (number source) h.top.registers k.registers

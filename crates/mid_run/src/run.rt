@@ -1,4 +1,4 @@
-ghost use Rattle.std.specs.Prelude.{◌≡◌, ◌≤◌, ◌<◌, ◌^◌, ℕ, List, [], Option, Some, OnOk, OnErr, IfOk, IfErr};
+ghost use Rattle.std.specs.Prelude.{◌≡◌, ◌≤◌, ◌<◌, ◌^◌, ℕ, List, [], Option, Some, OnOk, OnErr, IfOk, IfErr, All};
 ghost use Rattle.std.specs.Option.{option_copied};
 ghost use Rattle.srmt_base.specs.declared.event.Event.{Event};
 ghost use Rattle.srmt_outside.specs.Count.{Rose};
@@ -7,6 +7,7 @@ ghost use Rattle.mid_code.specs.Program.{line_at};
 ghost use Rattle.mid_code.specs.Valid.{IsValid};
 ghost use Rattle.mid_code.specs.Start.{FitLimits};
 ghost use Rattle.mid_code.specs.Meaning.{started};
+ghost use Rattle.mid_run.specs.Reaching.{state_of};
 ghost use Rattle.mid_run.specs.Progress.{Progress, At, FitsIn, Steps, Runs, end_of};
 
 use crate::act::{Did, perform};
@@ -76,14 +77,26 @@ impl MidRun {
             },
         };
         let count = main.kinds.len() as u16;
-        Ok(MidRun {
-            frames: Frames::start(alloc, program.main, count, budgets, ROOM)?,
-            protected: begin_statics(alloc, program.main_statics.as_slice(), limits.cells, true)?,
-            binary: begin_statics(alloc, program.binary_statics.as_slice(), limits.cells, false)?,
+        let frames = Frames::start(alloc, program.main, count, budgets, ROOM)?;
+        let protected = begin_statics(alloc, program.main_statics.as_slice(), limits.cells, true)?;
+        let binary = begin_statics(alloc, program.binary_statics.as_slice(), limits.cells, false)?;
+        Ok(MidRun::at_start(frames, protected, binary, input))
+    }
+
+    /// A run that has made no step.
+    fn at_start(frames: Frames, protected: Store, binary: Store, input: Vec<u8>) -> Self
+        requires { frames.room ≡ 2097152 }
+        ensures run { result ≡ At (state_of frames.machine protected binary input.items) }
+        ensures bytes { All (λ byte. byte < 256) input.items }
+    {
+        MidRun {
+            frames,
+            protected,
+            binary,
             input,
             at: 0,
             over: None,
-        })
+        }
     }
 
     /// Makes one step: one instruction, with its event. After an end it answers the same end.
