@@ -5,7 +5,7 @@ use Rattle.std.proofs.lemmas.Bool.{eqb-true, eq-eqb, ne_eqb, true≢false}
 use Rattle.srmt_base.specs.declared.event.Event.{Event}
 use Rattle.srmt_base.specs.declared.limits.Limits.{Limits}
 use Rattle.srmt_base.specs.declared.trap.Trap.{Trap}
-use Rattle.srmt_base.specs.declared.trap.Trap.TheVariants.{Turns, Depth}
+use Rattle.srmt_base.specs.declared.trap.Trap.TheVariants.{Turns, Depth, Store as StoreTrap}
 use Rattle.srmt_base.specs.declared.trap.SourceEnd.TheVariants.{Exit as ExitEnd, Trap as TrapEnd}
 use Rattle.srmt_base.specs.Memory.{Memory, Part, Protected, Binary, read_of, write_of, begin_of, next_number}
 use Rattle.mid_code.specs.declared.program.MidFunction.{MidFunction}
@@ -20,7 +20,8 @@ use Rattle.mid_code.specs.Counting.{Counting, Uncounted, OneTurn, OneActivation,
 use Rattle.mid_code.specs.Laws.{CanRun}
 use Rattle.mid_code.proofs.Naming.{whole}
 use Rattle.mid_code.proofs.Starting.{main_part}
-use Rattle.mid_code.proofs.Trapping.{is_counted, IsOther, read_other, write_other, begin_other}
+use Rattle.mid_code.proofs.Trapping.{is_counted, IsOther, uncounted, read_other, write_other, begin_store}
+use Rattle.mid_code.proofs.Placing.{HasCells, cells_after, store_forward, store_back}
 use Rattle.mid_code.proofs.Counting.{Quiet, Counted, AfterCount, IfGoesOn, step_goes, does_counted, at_least_one}
 
 -- what was counted of a part and what is left to it make up its limits
@@ -63,7 +64,7 @@ balanced_run program limits (suc more) turns s h =
 -- an access never ends the run by these budgets
 abbrev EndsOther : Step → Type 0
 EndsOther (On next events) = Unit {0}
-EndsOther (Ends (TrapEnd trap line) events) = IsOther trap
+EndsOther (Ends (TrapEnd trap line) events) = is_counted trap ≡ false
 EndsOther (Ends (ExitEnd status) events) = Unit {0}
 EndsOther Stuck = Unit {0}
 
@@ -71,15 +72,15 @@ reach_other : (program : MidProgram) (s : State) (access : Access) (line : ℕ) 
 reach_other program s access line = by access where
   read : (target : ℕ) (events : List Event) (r : Result ℕ Trap) → IfErr r IsOther → EndsOther (after_read target line events s r)
   read target events (Ok value) h = tt
-  read target events (Err trap) h = h
+  read target events (Err trap) h = uncounted trap h
 
   write : (events : List Event) (r : Result Memory Trap) → IfErr r IsOther → EndsOther (after_write line events s r)
   write events (Ok memory) h = tt
-  write events (Err trap) h = h
+  write events (Err trap) h = uncounted trap h
 
-  begin : (target number : ℕ) (r : Result Memory Trap) → IfErr r IsOther → EndsOther (after_begin target line number s r)
+  begin : (target number : ℕ) (r : Result Memory Trap) → IfErr r (λ trap. trap ≡ StoreTrap) → EndsOther (after_begin target line number s r)
   begin target number (Ok memory) h = tt
-  begin target number (Err trap) h = h
+  begin target number (Err trap) h = ap is_counted h
 
   get : (target : ℕ) (input : List ℕ) → EndsOther (after_get target input s)
   get target [] = tt
@@ -90,7 +91,7 @@ reach_other program s access line = by access where
   by (Stores pointer value) = write [] (write_of s.memory pointer value) (write_other s.memory pointer value)
   by (VolatileLoads target pointer) = read target _ (read_of s.memory pointer) (read_other s.memory pointer)
   by (VolatileStores pointer value) = write _ (write_of s.memory pointer value) (write_other s.memory pointer value)
-  by (Opens target cells) = begin target (next_number (own_part program s) s.memory) (begin_of (own_part program s) s.memory cells) (begin_other s.memory (own_part program s) cells)
+  by (Opens target cells) = begin target (next_number (own_part program s) s.memory) (begin_of (own_part program s) s.memory cells) (begin_store s.memory (own_part program s) cells)
   by (Closes number) = tt
   by (Puts value) = tt
   by (Gets target) = get target s.input
@@ -98,16 +99,16 @@ reach_other program s access line = by access where
 
 quiet_other : (program : MidProgram) (s : State) (d : Does) → Quiet program s.machine d → EndsOther (step_by program d s)
 quiet_other program s (Goes next) h = tt
-quiet_other program s (Traps trap line) h = h
+quiet_other program s (Traps trap line) h = uncounted trap h
 quiet_other program s (Reaches access line) h = reach_other program s access line
 quiet_other program s Lost h = tt
 
 no_other : (t : Step) (trap : Trap) (line : ℕ) → is_counted trap ≡ true → EndsOther t → t ≡ Ends (TrapEnd trap line) [] → ⊥
 no_other t trap line told other e =
-    let h : IsOther trap = subst EndsOther e other in
+    let h : is_counted trap ≡ false = subst EndsOther e other in
     true≢false (sym told ∙ h)
 
-module _ (program : MidProgram) (limits : Limits) (turns : Part → ℕ) (s : State) (balanced : Balanced program limits turns s) where
+module _ (program : MidProgram) (limits : Limits) (turns : Part → ℕ) (s : State) (balanced : Balanced program limits turns s) (cells : HasCells limits.cells s.memory) where
   -- where the trap of activations comes
   depth_forward : (line : ℕ) (c : Counting) (d : Does) → Counted program s.machine c d → step_by program d s ≡ Ends (TrapEnd Depth line) [] → (part : Part) × (c ≡ OneActivation part line) × (live_of program part (activations s.machine) ≡ limits.depth)
   depth_forward line Uncounted d h e = absurd (no_other (step_by program d s) Depth line refl (quiet_other program s d h) e)
@@ -169,6 +170,7 @@ module _ (program : MidProgram) (limits : Limits) (turns : Part → ℕ) (s : St
     depth_within = λ part. omega (arith, balanced.depth_left part);
     depth_trap = λ line. (depth_forward line (next_counting program s.machine) (does program s.machine) (does_counted program s.machine), depth_back line (next_counting program s.machine) (does program s.machine) (does_counted program s.machine));
     turns_trap = λ line. (turns_forward line (next_counting program s.machine) (does program s.machine) (does_counted program s.machine), turns_back line (next_counting program s.machine) (does program s.machine) (does_counted program s.machine));
+    store_trap = λ line. (store_forward limits.cells program s line cells, store_back limits.cells program s line cells);
   }
 
 -- at the start the turn and the activation of `main` are counted
@@ -194,3 +196,4 @@ counts_exactly program input limits can steps s events e =
     let start = started program input limits in
     let balanced = balanced_run program limits steps (λ part. one_if part Protected) start (balanced_started program input limits can) in
     exact program limits (λ part. turns_so_far program part steps start) s (subst (IfBalanced program limits (λ part. turns_so_far program part steps start)) e balanced)
+    (cells_after program input limits steps s events e)

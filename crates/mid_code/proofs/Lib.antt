@@ -1,3 +1,4 @@
+pub mod FirstLemmas
 pub mod RuleLemmas
 pub mod KindLemmas
 pub mod Passing
@@ -23,4 +24,7 @@ pub mod Bounding
 pub mod Smallness
 pub mod Trapping
 pub mod Counting
+pub mod Placing
 pub mod Exactness
+pub mod Worked
+pub mod Rooms

@@ -6,13 +6,18 @@ use Rattle.std.specs.Ordering.{int_eq}
 use Rattle.srmt_base.specs.declared.op.Op.{Op}
 use Rattle.srmt_base.specs.declared.op.Op.TheVariants.{Add, Sub, Mul, Div, Rem, Shl, Shr, And, Or, Xor, Lt, Gt, Le, Ge, Eq, Ne}
 use Rattle.srmt_base.specs.declared.trap.Trap.{Trap}
-use Rattle.srmt_base.specs.declared.trap.Trap.TheVariants.{Turns, Depth}
+use Rattle.srmt_base.specs.declared.trap.Trap.TheVariants.{Turns, Depth, Store}
 use Rattle.srmt_base.specs.declared.ty.Ty.{Ty}
+use Rattle.srmt_base.specs.Trap.{is_budget}
 use Rattle.srmt_base.specs.Types.{is_signed, can_hold, value_at, width_of}
 use Rattle.srmt_base.specs.Arith.{arith_of, reduced, shifted_left, bits_at}
 use Rattle.srmt_base.specs.Pointer.{amount_of, pointer_sum_of, pointer_difference_of, pointer_comparison_of, is_equality, is_offset}
-use Rattle.srmt_base.specs.Objects.{Object, Objects, object_part, offset_part, live_at, access_in, access_of, if_passed, put_of, add_of, live_cells, written}
+use Rattle.srmt_base.specs.Objects.{Object, Objects, object_part, offset_part, live_at, access_in, access_of, if_passed, put_of, begun, add_of, live_cells, written}
 use Rattle.srmt_base.specs.Memory.{Memory, Part, objects_of, last_number, part_of, changed, read_of, write_of, next_number, begin_of}
+
+-- a trap that is no budget's
+abbrev pub IsOther : Trap → Type 0
+IsOther trap = is_budget trap ≡ false
 
 -- whether a trap is that of turns or of activations
 abbrev pub is_counted : Trap → Bool
@@ -20,8 +25,10 @@ is_counted Turns = true
 is_counted Depth = true
 is_counted _ = false
 
-abbrev pub IsOther : Trap → Type 0
-IsOther trap = is_counted trap ≡ false
+pub uncounted : (trap : Trap) → IsOther trap → is_counted trap ≡ false
+uncounted Turns h = absurd (cc)
+uncounted Depth h = absurd (cc)
+uncounted _ h = refl
 
 if_other : {A : Type 0} (b : Bool) (r s : Result A Trap) → IfErr r IsOther → IfErr s IsOther → IfErr (if b then r else s) IsOther
 if_other true r s p q = p
@@ -86,8 +93,17 @@ write_other memory pointer value =
     let s = objects_of (part_of pointer) memory in
     changed_other (part_of pointer) memory (put_of s pointer value) (passed_other (λ _. written s pointer value) (access_of true s pointer) (access_other true s pointer))
 
-pub begin_other : (memory : Memory) (part : Part) (cells : ℕ) → IfErr (begin_of part memory cells) IsOther
-begin_other memory part cells =
+-- beginning an object traps by the budget of cells or of numbers alone
+add_store : {A : Type 0} (b : Bool) (x : A) → IfErr (if b then Err Store else Ok x) (λ trap. trap ≡ Store)
+add_store true x = refl
+add_store false x = tt
+
+begin_store_by : (part : Part) (memory : Memory) (b : Bool) (r : Result Objects Trap) → IfErr r (λ trap. trap ≡ Store) → IfErr (if b then Err Store else changed part memory r) (λ trap. trap ≡ Store)
+begin_store_by part memory true r h = refl
+begin_store_by part memory false (Ok objects) h = tt
+begin_store_by part memory false (Err trap) h = h
+
+pub begin_store : (memory : Memory) (part : Part) (cells : ℕ) → IfErr (begin_of part memory cells) (λ trap. trap ≡ Store)
+begin_store memory part cells =
     let s = objects_of part memory in
-    if_other (nat_lt (last_number part) (next_number part memory)) _ _ refl
-    (changed_other part memory (add_of s s.fresh cells false) (if_other (nat_lt s.fresh s.fresh || nat_lt s.budget (live_cells s + cells)) _ _ refl tt))
+    begin_store_by part memory (nat_lt (last_number part) (next_number part memory)) (add_of s s.fresh cells false) (add_store (nat_lt s.fresh s.fresh || nat_lt s.budget (live_cells s + cells)) (begun s s.fresh cells false))

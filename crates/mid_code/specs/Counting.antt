@@ -2,16 +2,17 @@
 use Rattle.std.specs.Prelude.{◌≡◌, ℕ, zero, suc, ◌+◌, ◌<◌, ◌≤◌, ◌↔◌, ◌⊎◌, if◌then◌else◌, [], Option, Some, None}
 use Rattle.srmt_base.specs.declared.limits.Limits.{Limits}
 use Rattle.srmt_base.specs.declared.trap.SourceEnd.TheVariants.{Trap as TrapEnd}
-use Rattle.srmt_base.specs.declared.trap.Trap.TheVariants.{Turns, Depth}
-use Rattle.srmt_base.specs.Memory.{Part, Protected}
+use Rattle.srmt_base.specs.declared.trap.Trap.TheVariants.{Turns, Depth, Store}
+use Rattle.srmt_base.specs.Objects.{live_cells}
+use Rattle.srmt_base.specs.Memory.{Part, Protected, last_number, next_number, objects_of}
 use Rattle.mid_code.specs.declared.program.MidFunction.{MidFunction}
 use Rattle.mid_code.specs.declared.program.MidLine.{MidLine}
 use Rattle.mid_code.specs.declared.program.MidProgram.{MidProgram}
 use Rattle.mid_code.specs.declared.mid.Mid.{Mid}
-use Rattle.mid_code.specs.declared.mid.Mid.TheVariants.{Turn, Call, CallPtr}
+use Rattle.mid_code.specs.declared.mid.Mid.TheVariants.{Open, Turn, Call, CallPtr}
 use Rattle.mid_code.specs.Program.{function_at, line_at}
 use Rattle.mid_code.specs.Machine.{Machine, register, activations, one_if, live_of, part_of_function, is_callee}
-use Rattle.mid_code.specs.Meaning.{State, Step, On, Ends, Stuck, step}
+use Rattle.mid_code.specs.Meaning.{State, Step, On, Ends, Stuck, own_part, step}
 
 pub data Counting : Type 0 where
   Uncounted : Counting
@@ -60,7 +61,8 @@ turns_in program part (suc more) s = turns_of part (next_counting program s.mach
 abbrev pub turns_so_far : MidProgram → Part → ℕ → State → ℕ
 turns_so_far program part steps s = one_if part Protected + turns_in program part steps s
 
--- a budget trap comes exactly where one more unit would pass the limit; of both, that of the activations comes first
+-- a budget trap comes exactly where one more unit would pass the limit: a turn or a live activation, of which the
+-- activation is tested first, or the cells of an object, or its number
 pub record CountsExactly (program : MidProgram) (limits : Limits) (turns : Part → ℕ) (s : State) : Type 0 where
   pub turns_within : (part : Part) → turns part ≤ limits.turns
   pub depth_within : (part : Part) → live_of program part (activations s.machine) ≤ limits.depth
@@ -70,3 +72,7 @@ pub record CountsExactly (program : MidProgram) (limits : Limits) (turns : Part 
       ((part : Part) × (turns part ≡ limits.turns)
       × ((next_counting program s.machine ≡ OneTurn part line)
       ⊎ ((next_counting program s.machine ≡ OneActivation part line) × (live_of program part (activations s.machine) < limits.depth))))
+  pub store_trap : (line : ℕ) → (step program s ≡ Ends (TrapEnd Store line) []) ↔
+      ((target cells : ℕ) × (line_at program s.machine.top.function s.machine.top.place ≡ Some (record { line = line; mid = Open target cells }))
+      × ((last_number (own_part program s) < next_number (own_part program s) s.memory)
+      ⊎ (limits.cells < live_cells (objects_of (own_part program s) s.memory) + cells)))

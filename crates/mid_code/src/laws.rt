@@ -28,8 +28,8 @@ pub fn values_stay_small()
     ensures { (program : MidProgram) (input : List ℕ) (limits : Limits) → CanRun program input limits → (steps : ℕ) (s : State) (events : List Event) → exec program steps (started program input limits) ≡ Running s events → HoldsSmall s }
 {}
 
-/// A law: a trap by the budget of turns or of live activations comes exactly where one more unit
-/// would pass the limit.
+/// A law: a budget trap comes exactly where one more unit would pass the limit: a turn, a live
+/// activation, the cells of an object or its number.
 pub fn budgets_are_exact()
     ensures { (program : MidProgram) (input : List ℕ) (limits : Limits) → CanRun program input limits → (steps : ℕ) (s : State) (events : List Event) → exec program steps (started program input limits) ≡ Running s events → CountsExactly program limits (λ part. turns_so_far program part steps (started program input limits)) s }
 {}

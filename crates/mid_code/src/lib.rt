@@ -18,7 +18,7 @@ mod program;
 mod refusal;
 mod registers;
 mod rules;
-mod valid;
+mod validity;
 mod version;
 
 pub use access::Access;
@@ -29,4 +29,8 @@ pub use pair::{Classed, Pair};
 pub use program::{FunType, MidFunction, MidLine, MidProgram, RegisterKind, Static};
 pub use refusal::MidRefusal;
 pub use registers::Registers;
+pub use validity::valid;
 pub use version::{Asks, Version, VersionLine, VersionOp};
+
+#[cfg(test)]
+mod tests;

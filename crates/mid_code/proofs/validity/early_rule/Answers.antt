@@ -5,7 +5,7 @@ use Rattle.mid_code.specs.declared.program.MidLine.{MidLine}
 use Rattle.mid_code.specs.Operands.{operands}
 use Rattle.mid_code.specs.Rules.{early_rule, is_beyond, has_outside, has_other_kind, names_nothing, mixes_kinds, jumps_wrongly, runs_out}
 use Rattle.mid_code.proofs.RuleLemmas.{same_either, same_least}
-use Rattle.mid_code.proofs.valid.early_rule.Goals as goal
+use Rattle.mid_code.proofs.validity.early_rule.Goals as goal
 
 pub returns : goal.returns
 unfolding early_rule
@@ -16,10 +16,10 @@ returns c =
     ∙ same_least _ _ _ _ _ _ _ _ _ _ _ _
     c.is_beyond-one.ensures
     (c.is_either-three.ensures
-      ∙ same_either _ _ _ _ (c.operand_faults-faults.ensures.outside ∙ ap (λ (ks : List RegisterKind). has_outside ks (operands c.args.mid.now)) kinds) c.names_nothing-names.ensures)
+    ∙ same_either _ _ _ _ (c.operand_faults-faults.ensures.outside ∙ ap (λ (ks : List RegisterKind). has_outside ks (operands c.args.mid.now)) kinds) c.names_nothing-names.ensures)
     (c.is_either-four.ensures
-      ∙ same_either _ _ _ _ (c.operand_faults-faults.ensures.other_kind ∙ ap (λ (ks : List RegisterKind). has_other_kind ks (operands c.args.mid.now)) kinds)
-      (c.mixes_kinds-mixes.ensures ∙ ap (λ (ks : List RegisterKind). mixes_kinds ks c.args.mid.now) kinds))
+    ∙ same_either _ _ _ _ (c.operand_faults-faults.ensures.other_kind ∙ ap (λ (ks : List RegisterKind). has_other_kind ks (operands c.args.mid.now)) kinds)
+    (c.mixes_kinds-mixes.ensures ∙ ap (λ (ks : List RegisterKind). mixes_kinds ks c.args.mid.now) kinds))
     (c.jumps_wrongly-five.ensures ∙ ap (λ (ls : List MidLine). jumps_wrongly ls c.args.place c.args.mid.now) code)
     (c.runs_out-six.ensures ∙ ap (λ (ls : List MidLine). runs_out ls c.args.place c.args.mid.now) code)
     c.misfits_here-seven.ensures

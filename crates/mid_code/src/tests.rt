@@ -1,0 +1,908 @@
+use crate::{
+    FunType, Mid, MidFunction, MidLine, MidProgram, MidRefusal, RegisterKind, Registers, Static,
+    valid,
+};
+use sqlite_items::Items;
+use srmt_base::{Op, Ty};
+use std::alloc::{AllocError, Global};
+use std::test::Fail;
+
+/// How a program differs from a valid one.
+#[derive(Clone, Copy, Debug)]
+struct Shape {
+    main: u16,
+    main_functions: u16,
+    main_ty: u16,
+    second_ty: u16,
+    second_registers: u16,
+    statics: u16,
+    cells: u16,
+    values: [u64; 2],
+    params: u16,
+}
+
+/// The valid one: `main` and a second function are those of the main file, a third is of the
+/// binary file.
+const SHAPE: Shape = Shape {
+    main: 1,
+    main_functions: 2,
+    main_ty: 0,
+    second_ty: 1,
+    second_registers: 4,
+    statics: 1,
+    cells: 2,
+    values: [0, 1],
+    params: 16,
+};
+
+/// Of each function registers 0 and 1 are numbers, and those from 2 on addresses.
+fn kinds(alloc: Global, count: u16) -> Result<Items<RegisterKind>, AllocError> {
+    let mut kinds = Items::new(alloc);
+    for register in 0..count {
+        let kind = if register < 2 {
+            RegisterKind::Number
+        } else {
+            RegisterKind::Address
+        };
+        kinds.push(kind)?;
+    }
+    Ok(kinds)
+}
+
+fn numbers(alloc: Global, count: u16) -> Result<Items<RegisterKind>, AllocError> {
+    let mut kinds = Items::new(alloc);
+    for _ in 0..count {
+        kinds.push(RegisterKind::Number)?;
+    }
+    Ok(kinds)
+}
+
+/// The types: none to a number, one and two numbers to a number and to an address, an address to a
+/// number, and so many numbers to a number.
+fn types(alloc: Global, params: u16) -> Result<Items<FunType>, AllocError> {
+    let mut types = Items::new(alloc);
+    let result = RegisterKind::Number;
+    types.push(FunType {
+        params: Items::new(alloc),
+        result,
+    })?;
+    types.push(FunType {
+        params: numbers(alloc, 1)?,
+        result,
+    })?;
+    types.push(FunType {
+        params: numbers(alloc, 2)?,
+        result: RegisterKind::Address,
+    })?;
+    types.push(FunType {
+        params: Items::from_slice(alloc, &[RegisterKind::Address])?,
+        result,
+    })?;
+    types.push(FunType {
+        params: numbers(alloc, params)?,
+        result,
+    })?;
+    Ok(types)
+}
+
+fn statics(alloc: Global, shape: &Shape) -> Result<Items<Static>, AllocError> {
+    let mut statics = Items::new(alloc);
+    for _ in 0..shape.statics {
+        let values = Items::from_slice(alloc, &shape.values)?;
+        statics.push(Static {
+            cells: shape.cells,
+            read_only: false,
+            values,
+        })?;
+    }
+    Ok(statics)
+}
+
+fn function(
+    alloc: Global,
+    ty: u16,
+    registers: u16,
+    code: &[Mid],
+) -> Result<MidFunction, AllocError> {
+    let mut lines = Items::new(alloc);
+    for mid in code {
+        lines.push(MidLine { line: 1, mid: *mid })?;
+    }
+    Ok(MidFunction {
+        ty,
+        kinds: kinds(alloc, registers)?,
+        line: 1,
+        code: lines,
+    })
+}
+
+fn program(
+    alloc: Global,
+    shape: &Shape,
+    main: &[Mid],
+    second: &[Mid],
+) -> Result<MidProgram, AllocError> {
+    let mut functions = Items::new(alloc);
+    functions.push(function(alloc, shape.main_ty, 4, main)?)?;
+    functions.push(function(alloc, shape.second_ty, shape.second_registers, second)?)?;
+    functions.push(function(alloc, 2, 4, &[Mid::Return { source: 2 }])?)?;
+    Ok(MidProgram {
+        types: types(alloc, shape.params)?,
+        main_functions: shape.main_functions,
+        main: shape.main,
+        main_statics: statics(alloc, shape)?,
+        binary_statics: statics(alloc, &SHAPE)?,
+        functions,
+    })
+}
+
+/// A place of a function, and the rule that is broken there.
+type Broken = (u16, u32, u8);
+
+fn answer(program: &MidProgram) -> Option<Broken> {
+    match valid(program) {
+        Ok(()) => None,
+        Err(
+            MidRefusal {
+                function,
+                place,
+                rule,
+            },
+        ) => Some((function, place, rule)),
+    }
+}
+
+const END: Mid = Mid::Exit { source: 0 };
+
+const BACK: Mid = Mid::Return { source: 0 };
+
+/// Programs that are the valid one but for a number of their own, each with its answer.
+const SHAPES: [(Shape, Option<Broken>); 20] = [
+    (SHAPE, None),
+    (Shape { main: 0, ..SHAPE }, Some((0, 0, 1))),
+    (Shape { main: 3, ..SHAPE }, Some((0, 0, 1))),
+    (
+        Shape {
+            main_functions: 4,
+            ..SHAPE
+        },
+        Some((0, 0, 1)),
+    ),
+    (
+        Shape {
+            params: 17,
+            ..SHAPE
+        },
+        Some((0, 0, 1)),
+    ),
+    (Shape { cells: 0, ..SHAPE }, Some((0, 0, 1))),
+    (Shape { cells: 1, ..SHAPE }, Some((0, 0, 1))),
+    (
+        Shape {
+            values: [1, 0],
+            ..SHAPE
+        },
+        Some((0, 0, 1)),
+    ),
+    (
+        Shape {
+            values: [1 << 44, 1],
+            ..SHAPE
+        },
+        Some((0, 0, 1)),
+    ),
+    (
+        Shape {
+            values: [(1 << 44) - 1, 1],
+            ..SHAPE
+        },
+        None,
+    ),
+    (
+        Shape {
+            statics: 16,
+            cells: 65_535,
+            ..SHAPE
+        },
+        None,
+    ),
+    (
+        Shape {
+            statics: 17,
+            cells: 65_535,
+            ..SHAPE
+        },
+        Some((0, 0, 1)),
+    ),
+    (
+        Shape {
+            main_ty: 1,
+            ..SHAPE
+        },
+        Some((1, 0, 1)),
+    ),
+    (
+        Shape {
+            second_ty: 5,
+            ..SHAPE
+        },
+        Some((2, 0, 1)),
+    ),
+    (
+        Shape {
+            second_registers: 0,
+            ..SHAPE
+        },
+        Some((2, 0, 1)),
+    ),
+    (
+        Shape {
+            second_registers: 1,
+            ..SHAPE
+        },
+        None,
+    ),
+    (
+        Shape {
+            second_registers: 1024,
+            ..SHAPE
+        },
+        None,
+    ),
+    (
+        Shape {
+            second_registers: 1025,
+            ..SHAPE
+        },
+        Some((2, 0, 1)),
+    ),
+    (
+        Shape {
+            second_ty: 2,
+            second_registers: 1,
+            ..SHAPE
+        },
+        Some((2, 0, 1)),
+    ),
+    (
+        Shape {
+            second_ty: 3,
+            ..SHAPE
+        },
+        Some((2, 0, 7)),
+    ),
+];
+
+#[test]
+fn limits_are_kept(rt: HostRuntime) -> Result<(), Fail> {
+    for (shape, expected) in SHAPES {
+        let tried = program(rt.alloc(), &shape, &[END], &[BACK])?;
+        assert_eq!(rt; answer(&tried), expected, "{shape:?}");
+    }
+    let empty = program(rt.alloc(), &SHAPE, &[END], &[])?;
+    assert_eq!(rt; answer(&empty), Some((2, 0, 1)));
+    Ok(())
+}
+
+const NONE: Registers = Registers {
+    count: 0,
+    numbers: [0; 16],
+};
+/// Register 0, and register 0 twice.
+const ONE: Registers = Registers {
+    count: 1,
+    numbers: [0; 16],
+};
+
+const TWO: Registers = Registers {
+    count: 2,
+    numbers: [0; 16],
+};
+/// An address, and a register that is not there.
+const ADDRESS: Registers = Registers {
+    count: 1,
+    numbers: [2, 0, 0, 0, 0, 0, 0, 0, 0, 0, 0, 0, 0, 0, 0, 0],
+};
+
+const FAR: Registers = Registers {
+    count: 1,
+    numbers: [4, 0, 0, 0, 0, 0, 0, 0, 0, 0, 0, 0, 0, 0, 0, 0],
+};
+
+/// Instructions that stand at place 1 of `main`, each with the rule that it breaks there.
+const SINGLE: [(Mid, u8); 61] = [
+    (
+        Mid::Const {
+            target: 0,
+            value: (1 << 44) - 1,
+        },
+        0,
+    ),
+    (
+        Mid::Const {
+            target: 3,
+            value: 0,
+        },
+        0,
+    ),
+    (
+        Mid::Move {
+            target: 0,
+            source: 1,
+        },
+        0,
+    ),
+    (
+        Mid::Move {
+            target: 2,
+            source: 3,
+        },
+        0,
+    ),
+    (
+        Mid::Arith {
+            op: Op::Ne,
+            ty: Ty::UInt,
+            target: 0,
+            left: 1,
+            right: 1,
+        },
+        0,
+    ),
+    (
+        Mid::Conv {
+            from: Ty::Bool,
+            to: Ty::Char,
+            target: 0,
+            source: 1,
+        },
+        0,
+    ),
+    (
+        Mid::PtrAdd {
+            target: 2,
+            pointer: 3,
+            index: 0,
+            ty: Ty::Short,
+            negated: true,
+            scale: 1,
+        },
+        0,
+    ),
+    (
+        Mid::PtrDiff {
+            target: 0,
+            left: 2,
+            right: 3,
+            scale: 1,
+        },
+        0,
+    ),
+    (
+        Mid::PtrCmp {
+            op: Op::Le,
+            target: 0,
+            left: 2,
+            right: 3,
+        },
+        0,
+    ),
+    (
+        Mid::GlobAddr {
+            target: 2,
+            object: 1,
+        },
+        0,
+    ),
+    (
+        Mid::GlobAddr {
+            target: 2,
+            object: 134_217_728,
+        },
+        0,
+    ),
+    (
+        Mid::FunAddr {
+            target: 0,
+            function: 3,
+        },
+        0,
+    ),
+    (
+        Mid::Load {
+            target: 0,
+            pointer: 2,
+        },
+        0,
+    ),
+    (
+        Mid::Store {
+            pointer: 2,
+            source: 3,
+        },
+        0,
+    ),
+    (
+        Mid::VLoad {
+            target: 3,
+            pointer: 2,
+        },
+        0,
+    ),
+    (
+        Mid::VStore {
+            pointer: 2,
+            source: 0,
+        },
+        0,
+    ),
+    (
+        Mid::Open {
+            target: 2,
+            cells: 65_535,
+        },
+        0,
+    ),
+    (Mid::Jump { place: 2 }, 0),
+    (
+        Mid::JumpZ {
+            source: 2,
+            place: 0,
+        },
+        0,
+    ),
+    (
+        Mid::JumpN {
+            source: 0,
+            place: 2,
+        },
+        0,
+    ),
+    (Mid::Turn, 0),
+    (
+        Mid::Call {
+            target: 0,
+            function: 2,
+            args: ONE,
+        },
+        0,
+    ),
+    (
+        Mid::CallPtr {
+            target: 2,
+            callee: 0,
+            ty: 2,
+            args: TWO,
+        },
+        0,
+    ),
+    (
+        Mid::CallPtr {
+            target: 1,
+            callee: 0,
+            ty: 3,
+            args: ADDRESS,
+        },
+        0,
+    ),
+    (Mid::Put { source: 0 }, 0),
+    (Mid::Get { target: 0 }, 0),
+    (Mid::Exit { source: 0 }, 0),
+    (
+        Mid::Const {
+            target: 0,
+            value: 1 << 44,
+        },
+        1,
+    ),
+    (
+        Mid::Open {
+            target: 2,
+            cells: 0,
+        },
+        1,
+    ),
+    (
+        Mid::Const {
+            target: 4,
+            value: 0,
+        },
+        3,
+    ),
+    (
+        Mid::GlobAddr {
+            target: 2,
+            object: 0,
+        },
+        3,
+    ),
+    (
+        Mid::GlobAddr {
+            target: 2,
+            object: 2,
+        },
+        3,
+    ),
+    (
+        Mid::GlobAddr {
+            target: 2,
+            object: 134_217_729,
+        },
+        3,
+    ),
+    (
+        Mid::FunAddr {
+            target: 0,
+            function: 0,
+        },
+        3,
+    ),
+    (
+        Mid::FunAddr {
+            target: 0,
+            function: 1,
+        },
+        3,
+    ),
+    (
+        Mid::FunAddr {
+            target: 0,
+            function: 4,
+        },
+        3,
+    ),
+    (
+        Mid::Call {
+            target: 0,
+            function: 1,
+            args: NONE,
+        },
+        3,
+    ),
+    (
+        Mid::Call {
+            target: 0,
+            function: 2,
+            args: FAR,
+        },
+        3,
+    ),
+    (
+        Mid::CallPtr {
+            target: 0,
+            callee: 0,
+            ty: 5,
+            args: NONE,
+        },
+        3,
+    ),
+    (
+        Mid::Arith {
+            op: Op::Add,
+            ty: Ty::Char,
+            target: 2,
+            left: 0,
+            right: 0,
+        },
+        3,
+    ),
+    (
+        Mid::PtrAdd {
+            target: 2,
+            pointer: 2,
+            index: 0,
+            ty: Ty::Int,
+            negated: false,
+            scale: 0,
+        },
+        3,
+    ),
+    (
+        Mid::PtrDiff {
+            target: 0,
+            left: 2,
+            right: 3,
+            scale: 0,
+        },
+        3,
+    ),
+    (
+        Mid::PtrCmp {
+            op: Op::Add,
+            target: 0,
+            left: 2,
+            right: 3,
+        },
+        3,
+    ),
+    (
+        Mid::Const {
+            target: 2,
+            value: 1,
+        },
+        4,
+    ),
+    (
+        Mid::Move {
+            target: 2,
+            source: 1,
+        },
+        4,
+    ),
+    (
+        Mid::Arith {
+            op: Op::Add,
+            ty: Ty::Int,
+            target: 2,
+            left: 0,
+            right: 0,
+        },
+        4,
+    ),
+    (
+        Mid::PtrAdd {
+            target: 2,
+            pointer: 0,
+            index: 0,
+            ty: Ty::Int,
+            negated: false,
+            scale: 1,
+        },
+        4,
+    ),
+    (
+        Mid::PtrCmp {
+            op: Op::Eq,
+            target: 0,
+            left: 2,
+            right: 0,
+        },
+        4,
+    ),
+    (
+        Mid::Load {
+            target: 0,
+            pointer: 0,
+        },
+        4,
+    ),
+    (
+        Mid::CallPtr {
+            target: 0,
+            callee: 2,
+            ty: 0,
+            args: NONE,
+        },
+        4,
+    ),
+    (Mid::Put { source: 2 }, 4),
+    (Mid::Jump { place: 3 }, 5),
+    (Mid::Jump { place: 1 }, 5),
+    (
+        Mid::JumpZ {
+            source: 0,
+            place: 4_294_967_295,
+        },
+        5,
+    ),
+    (Mid::Close { place: 3 }, 5),
+    (
+        Mid::Call {
+            target: 0,
+            function: 2,
+            args: TWO,
+        },
+        7,
+    ),
+    (
+        Mid::Call {
+            target: 0,
+            function: 2,
+            args: ADDRESS,
+        },
+        7,
+    ),
+    (
+        Mid::Call {
+            target: 2,
+            function: 2,
+            args: ONE,
+        },
+        7,
+    ),
+    (
+        Mid::CallPtr {
+            target: 0,
+            callee: 0,
+            ty: 2,
+            args: TWO,
+        },
+        7,
+    ),
+    (Mid::Return { source: 0 }, 7),
+    (Mid::Close { place: 0 }, 8),
+];
+
+#[test]
+fn instructions_keep_their_rules(rt: HostRuntime) -> Result<(), Fail> {
+    for (mid, rule) in SINGLE {
+        let tried = program(rt.alloc(), &SHAPE, &[Mid::Turn, mid, END], &[BACK])?;
+        let expected = if rule == 0 { None } else { Some((1, 1, rule)) };
+        assert_eq!(rt; answer(&tried), expected, "{mid:?}");
+    }
+    Ok(())
+}
+
+const OPEN: Mid = Mid::Open {
+    target: 2,
+    cells: 1,
+};
+
+/// Code of `main`, or of the second function, each with its answer.
+const CODES: [(u16, [Mid; 5], Option<Broken>); 18] = [
+    // Objects close in reverse, and none needs to be closed where the run ends.
+    (
+        1,
+        [
+            OPEN,
+            OPEN,
+            Mid::Close { place: 1 },
+            Mid::Close { place: 0 },
+            END,
+        ],
+        None,
+    ),
+    (
+        1,
+        [
+            OPEN,
+            OPEN,
+            Mid::Close { place: 0 },
+            Mid::Close { place: 1 },
+            END,
+        ],
+        Some((1, 2, 8)),
+    ),
+    (
+        1,
+        [
+            OPEN,
+            Mid::Close { place: 0 },
+            Mid::Close { place: 0 },
+            END,
+            END,
+        ],
+        Some((1, 2, 8)),
+    ),
+    (
+        1,
+        [OPEN, OPEN, Mid::Close { place: 1 }, Mid::Turn, END],
+        None,
+    ),
+    (2, [OPEN, Mid::Close { place: 0 }, BACK, BACK, BACK], None),
+    (2, [OPEN, BACK, BACK, BACK, BACK], Some((2, 1, 8))),
+    (2, [OPEN, END, BACK, BACK, BACK], None),
+    // A place that is entered on two ways has the same open objects on both.
+    (
+        1,
+        [
+            Mid::JumpZ {
+                source: 0,
+                place: 2,
+            },
+            OPEN,
+            END,
+            END,
+            END,
+        ],
+        Some((1, 1, 8)),
+    ),
+    (
+        1,
+        [
+            OPEN,
+            Mid::JumpN {
+                source: 0,
+                place: 3,
+            },
+            Mid::Turn,
+            Mid::Close { place: 0 },
+            END,
+        ],
+        None,
+    ),
+    // A loop leaves open what it found.
+    (
+        1,
+        [Mid::Turn, OPEN, Mid::Jump { place: 0 }, END, END],
+        Some((1, 2, 8)),
+    ),
+    (
+        1,
+        [
+            Mid::Turn,
+            OPEN,
+            Mid::Close { place: 1 },
+            Mid::Jump { place: 0 },
+            END,
+        ],
+        None,
+    ),
+    // A place that is not reached is not judged by its open objects, and may not be entered from behind.
+    (
+        1,
+        [
+            Mid::Jump { place: 2 },
+            Mid::Close { place: 0 },
+            END,
+            END,
+            END,
+        ],
+        None,
+    ),
+    (
+        1,
+        [
+            Mid::Jump { place: 2 },
+            Mid::Turn,
+            Mid::Jump { place: 1 },
+            END,
+            END,
+        ],
+        Some((1, 2, 8)),
+    ),
+    // The last instruction is one that no other follows.
+    (
+        1,
+        [END, END, END, END, Mid::Put { source: 0 }],
+        Some((1, 4, 6)),
+    ),
+    (
+        1,
+        [
+            END,
+            END,
+            END,
+            END,
+            Mid::JumpN {
+                source: 0,
+                place: 5,
+            },
+        ],
+        Some((1, 4, 5)),
+    ),
+    (2, [END, END, END, Mid::Turn, Mid::Jump { place: 3 }], None),
+    // The first place counts, whatever the rule, and the least rule there.
+    (
+        1,
+        [
+            OPEN,
+            Mid::Close { place: 1 },
+            Mid::Const {
+                target: 0,
+                value: 1 << 44,
+            },
+            END,
+            END,
+        ],
+        Some((1, 1, 8)),
+    ),
+    (
+        2,
+        [Mid::Return { source: 2 }, END, END, END, BACK],
+        Some((2, 0, 7)),
+    ),
+];
+
+#[test]
+fn code_keeps_its_rules(rt: HostRuntime) -> Result<(), Fail> {
+    for (function, code, expected) in CODES {
+        let tried = if function == 1 {
+            program(rt.alloc(), &SHAPE, &code, &[BACK])?
+        } else {
+            program(rt.alloc(), &SHAPE, &[END], &code)?
+        };
+        assert_eq!(rt; answer(&tried), expected, "{code:?}");
+    }
+    Ok(())
+}
