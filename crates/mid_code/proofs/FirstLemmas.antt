@@ -1,7 +1,7 @@
 -- The first place that breaks a rule.
-use Rattle.std.proofs.Common.{inl, inr, ◌≡◌, ℕ, zero, suc, ◌+◌, ◌-◌, ◌<◌, ◌≤◌, List, [], length, get_or, Option, Some, None, Bool, true, false, refl, sym, ap, ◌∙◌, subst, arith}
+use Rattle.std.proofs.Common.{inl, inr, ◌≡◌, ℕ, zero, suc, ◌+◌, ◌-◌, ◌<◌, ◌≤◌, List, [], length, get_or, Some, None, Bool, true, false, refl, sym, ap, ◌∙◌, arith}
 use Rattle.std.specs.Prelude.{nat_lt, ◌==◌, ◌&&◌, ◌||◌, if◌then◌else◌, slice_get, slice_index}
-use Rattle.std.proofs.lemmas.Bool.{cases_lt, cases_eq, eq-eqb, ne_eqb}
+use Rattle.std.proofs.lemmas.Bool.{cases_lt, cases_eq}
 use Rattle.std.proofs.lemmas.Bool.Decides.{nat_tests}
 use Rattle.std.proofs.lemmas.Option.{slice_get_cases, slice_get_within, get_or_from_slice_get}
 use Rattle.mid_code.specs.declared.program.MidLine.{MidLine}
@@ -10,7 +10,7 @@ use Rattle.mid_code.specs.declared.program.MidProgram.{MidProgram}
 use Rattle.mid_code.specs.declared.refusal.MidRefusal.{MidRefusal}
 use Rattle.mid_code.specs.Flow.{entered}
 use Rattle.mid_code.specs.Row.{number_of, Holds}
-use Rattle.mid_code.specs.Rules.{has_large_type, has_bad_parts, has_bad_statics, breaks_program, has_bad_type, breaks_function, instruction_rule, line_rule, function_rule, rule_broken}
+use Rattle.mid_code.specs.Rules.{has_large_type, has_bad_parts, has_bad_statics, breaks_program, has_bad_type, breaks_function, line_rule, function_rule, rule_broken}
 use Rattle.mid_code.specs.Valid.{IsValid, IsFirstBroken, IsSoundFunction, IsFirstIn}
 
 -- at the start of a pass the first place is reached with nothing open

@@ -1,5 +1,5 @@
 -- What a valid program keeps: each rule at each of its places.
-use Rattle.std.proofs.Common.{◌≡◌, ℕ, zero, suc, ◌+◌, List, Option, Some, None, Bool, true, false, refl, sym, ap, ◌∙◌, subst, arith}
+use Rattle.std.proofs.Common.{◌≡◌, ℕ, zero, suc, Option, Some, None, Bool, true, false, refl, sym, ap, ◌∙◌}
 use Rattle.std.specs.Prelude.{slice_get, if◌then◌else◌, ◌==◌, ◌&&◌, ◌||◌}
 use Rattle.mid_code.specs.declared.program.MidProgram.{MidProgram}
 use Rattle.mid_code.specs.declared.program.MidFunction.{MidFunction}
@@ -8,7 +8,7 @@ use Rattle.mid_code.specs.declared.mid.Mid.{Mid}
 use Rattle.mid_code.specs.Program.{function_at}
 use Rattle.mid_code.specs.Operands.{operands}
 use Rattle.mid_code.specs.Flow.{breaks_order}
-use Rattle.mid_code.specs.Rules.{breaks_program, breaks_function, is_beyond, has_outside, names_nothing, has_other_kind, mixes_kinds, jumps_wrongly, runs_out, misfits, misfits_params, early_rule, or_order, instruction_rule, line_rule, function_rule, rule_broken}
+use Rattle.mid_code.specs.Rules.{breaks_program, breaks_function, is_beyond, has_outside, names_nothing, has_other_kind, mixes_kinds, jumps_wrongly, runs_out, misfits, misfits_params, early_rule, or_order, instruction_rule, line_rule, function_rule}
 use Rattle.mid_code.specs.Valid.{IsValid}
 
 -- an instruction keeps the rules at its place

@@ -1,18 +1,17 @@
 -- One step of the pass over open objects: the row comes one place further, and its numbers tell what is wrong.
-use Rattle.std.proofs.Common.{inl, inr, ◌≡◌, ◌≢◌, ℕ, zero, suc, ◌+◌, ◌<◌, ◌≤◌, List, [], ◌∷◌, length, Option, Some, None, Bool, true, false, refl, sym, ap, ◌∙◌, subst, arith}
+use Rattle.std.proofs.Common.{inl, inr, ◌≡◌, ◌≢◌, ℕ, suc, ◌+◌, ◌<◌, ◌≤◌, List, [], ◌∷◌, length, Option, Some, None, Bool, true, false, refl, sym, ap, ◌∙◌, subst, arith}
 use Rattle.std.specs.Prelude.{nat_lt, not, ◌==◌, ◌&&◌, ◌||◌, if◌then◌else◌, slice_get, slice_index}
 use Rattle.std.specs.List.{list_any}
 use Rattle.std.specs.Bool.{OnFalse}
 use Rattle.std.proofs.lemmas.Option.{slice_get_cases}
 use Rattle.std.proofs.lemmas.Bool.{cases_eq, cases_lt, cases_Bool, eqb-true, ltb-true, eq-eqb, ne_eqb}
-use Rattle.std.proofs.lemmas.Bool.Decides.{nat_tests}
 use Rattle.mid_code.specs.declared.mid.Mid.{Mid}
 use Rattle.mid_code.specs.declared.mid.Mid.TheVariants.{Open, Close, Return}
 use Rattle.mid_code.specs.declared.program.MidLine.{MidLine}
 use Rattle.mid_code.specs.Flow.{goes_to, leaves, enters, entry, or_else, entered, found_at, same_places, has_others, closes_wrongly, enters_wrongly, breaks_order, breaks_order_by}
 use Rattle.mid_code.specs.Row.{number_of, Holds, left_number, number_closes_wrongly, row_after, has_other_number}
 use Rattle.mid_code.proofs.FlowLemmas.{IsStacked, stacked, stacked_left, entered_after, stays}
-use Rattle.mid_code.proofs.RowLemmas.{length_after, kept_behind, kept_full, kept_other, filled}
+use Rattle.mid_code.proofs.RowLemmas.{kept_behind, kept_full, kept_other, filled}
 
 -- a place that is reached has a number that is not 0
 pub some_number : (os : List ℕ) → number_of (Some os) ≢ 0

@@ -1,6 +1,5 @@
 -- The registers that an instruction names, and the kinds that they must have.
-use Rattle.std.specs.Prelude.{ℕ, List, [], ◌∷◌, map, Bool, true, false, Option, Some, None}
-use Rattle.mid_code.specs.declared.program.RegisterKind.{RegisterKind}
+use Rattle.std.specs.Prelude.{ℕ, List, [], ◌∷◌, map, Some, None}
 use Rattle.mid_code.specs.declared.program.RegisterKind.TheVariants.{Number, Address}
 pub use Rattle.mid_code.specs.declared.operands.Operand.{Operand}
 use Rattle.mid_code.specs.declared.mid.Mid.{Mid}

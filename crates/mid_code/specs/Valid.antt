@@ -1,5 +1,5 @@
 -- Which programs of middle code are valid.
-use Rattle.std.specs.Prelude.{◌≡◌, ℕ, suc, ◌<◌, Some, None}
+use Rattle.std.specs.Prelude.{◌≡◌, ℕ, ◌<◌, Some, None}
 use Rattle.mid_code.specs.declared.program.MidProgram.{MidProgram}
 use Rattle.mid_code.specs.declared.refusal.MidRefusal.{MidRefusal}
 use Rattle.mid_code.specs.declared.program.MidFunction.{MidFunction}

@@ -1,4 +1,4 @@
-use Rattle.std.proofs.Common.{◌≡◌, drop, length, ◌≤◌}
+use Rattle.std.proofs.Common.{◌≡◌, drop}
 use Rattle.mid_code.specs.Row.{row_after}
 use Rattle.mid_code.proofs.flow.enter_all.Given as goal
 

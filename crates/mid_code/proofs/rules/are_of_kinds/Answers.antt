@@ -1,5 +1,5 @@
 use Rattle.std.proofs.Common.{sym}
-use Rattle.mid_code.proofs.KindLemmas.{other_lengths, are_from, are_ended}
+use Rattle.mid_code.proofs.KindLemmas.{other_lengths}
 use Rattle.mid_code.proofs.rules.are_of_kinds.Goals as goal
 
 pub returns-then-args-params : goal.returns-then-args-params

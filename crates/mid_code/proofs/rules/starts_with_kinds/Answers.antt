@@ -1,5 +1,5 @@
 use Rattle.std.proofs.Common.{sym, ◌∙◌, arith}
-use Rattle.mid_code.proofs.KindLemmas.{starts_from, starts_ended}
+use Rattle.mid_code.proofs.KindLemmas.{starts_ended}
 use Rattle.mid_code.proofs.rules.starts_with_kinds.Goals as goal
 
 pub returns : goal.returns

@@ -1,9 +1,8 @@
 use Rattle.std.proofs.Common.{◌≡◌, ◌∙◌, ap, List}
-use Rattle.std.specs.Prelude.{ℕ, ◌||◌}
 use Rattle.mid_code.specs.declared.program.RegisterKind.{RegisterKind}
 use Rattle.mid_code.specs.declared.program.MidLine.{MidLine}
 use Rattle.mid_code.specs.Operands.{operands}
-use Rattle.mid_code.specs.Rules.{early_rule, is_beyond, has_outside, has_other_kind, names_nothing, mixes_kinds, jumps_wrongly, runs_out}
+use Rattle.mid_code.specs.Rules.{early_rule, has_outside, has_other_kind, mixes_kinds, jumps_wrongly, runs_out}
 use Rattle.mid_code.proofs.RuleLemmas.{same_either, same_least}
 use Rattle.mid_code.proofs.validity.early_rule.Goals as goal
 

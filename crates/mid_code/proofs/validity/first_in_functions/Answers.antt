@@ -1,8 +1,8 @@
-use Rattle.std.proofs.Common.{◌≡◌, ◌∙◌, ◌+◌, suc, ℕ, List, sym, ap, subst, arith, length, Some, get_or}
+use Rattle.std.proofs.Common.{◌≡◌, ◌∙◌, ◌+◌, suc, List, ap, subst, arith, length, Some, get_or}
 use Rattle.std.specs.Prelude.{slice_get}
 use Rattle.mid_code.specs.declared.program.MidFunction.{MidFunction}
 use Rattle.mid_code.specs.Valid.{IsFirstIn, IsSoundFunction}
-use Rattle.mid_code.proofs.FirstLemmas.{at_index, first_of_all, more_functions, all_sound, few_functions}
+use Rattle.mid_code.proofs.FirstLemmas.{at_index, first_of_all, more_functions, all_sound}
 use Rattle.mid_code.proofs.validity.first_in_functions.Goals as goal
 
 pub returns-in-Some-clause-first : goal.returns-in-Some-clause-first

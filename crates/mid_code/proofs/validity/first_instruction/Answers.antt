@@ -1,8 +1,8 @@
-use Rattle.std.proofs.Common.{inl, inr, ◌≡◌, ◌∙◌, sym, ap, refl, arith, ◌≤◌, length, Some}
+use Rattle.std.proofs.Common.{inl, inr, ◌∙◌, sym, ap, refl, arith}
 use Rattle.std.proofs.lemmas.Bool.{cases_lt}
 use Rattle.mid_code.specs.Rules.{line_rule}
 use Rattle.mid_code.proofs.Passing.{line_there}
-use Rattle.mid_code.proofs.FirstLemmas.{starts, code_limit, rule_within, rule_past, more_sound}
+use Rattle.mid_code.proofs.FirstLemmas.{starts, rule_within, rule_past}
 use Rattle.mid_code.proofs.validity.first_instruction.Goals as goal
 
 pub loop-place-init : goal.loop-place-init
