@@ -179,3 +179,8 @@ slice_get-map cells (row ∷ rows) (suc place) d within = slice_get-map cells ro
 pub live_at-place : (budget fresh : ℕ) (rows : List Row) (cells : List ℕ) (number place : ℕ) (d : Row) → place < length rows → row_of rows number ≡ Some (get_or rows place d) → live_at (flat budget fresh rows cells) number ≡ slice_get (map (object_in cells) rows) place
 live_at-place budget fresh rows cells number place d within e =
     find-map cells rows number ∙ ap (option_map (object_in cells)) e ∙ sym (slice_get-map cells rows place d within)
+
+-- a write that passes its tests is made
+pub passes : {A : Type 0} (r : Result Object Trap) (x y : A) → if_passed (λ _. x) r ≡ Ok y → if_passed (λ _. x) r ≡ Ok x
+passes (Ok object) x y h = refl
+passes (Err trap) x y h = absurd (cc)

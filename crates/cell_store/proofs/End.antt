@@ -210,3 +210,11 @@ flat_without_row budget fresh rows cells row_capacity cell_capacity row at flat 
 
 pub row_within : (rows : List Row) (end fresh : ℕ) (row : Row) (at : ℕ) → AreLaid 0 0 rows end fresh → at < length rows → row ≡ get_or rows at row → row.start + row.cells ≤ end
 row_within rows end fresh row at laid within is = rw (← is) at (ends_within rows end fresh row at laid within)
+
+-- there is a line less
+pub length-without : (rows : List Row) (at : ℕ) (f : Row → Row) → at < length rows → length rows ≤ length (take at rows ++ map f (drop (at + 1) rows)) + 1
+length-without rows at f within =
+    let front : length (take at rows) ≡ at = length-take-le at rows (omega arith) in
+    let back : length (map f (drop (at + 1) rows)) ≡ length rows - (at + 1) = length-map (drop (at + 1) rows) f ∙ length-drop (at + 1) rows in
+    let all = length-append (take at rows) (map f (drop (at + 1) rows)) in
+    omega (arith, front, back, all)

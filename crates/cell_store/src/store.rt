@@ -1,5 +1,5 @@
 ghost use Rattle.std.specs.Prelude.{◌≡◌, ℕ, ◌+◌, ◌-◌, ◌*◌, ◌^◌, ◌<◌, ◌≤◌, is_some, length, slice_get, IsFalse, IfSome, IfOk, IfErr, OnOk, OnErr};
-ghost use Rattle.srmt_base.specs.Objects.{start_of, live_at, is_live, add_of, load_of, put_of, set_up_of, end_of};
+ghost use Rattle.srmt_base.specs.Objects.{start_of, live_at, is_live, add_of, load_of, put_of, written, set_up_of, end_of};
 
 use crate::Steps;
 use crate::table::{Row, close_up, newest_or_place, place, reach, take_out};
@@ -44,6 +44,24 @@ impl Store {
         })
     }
 
+    /// How many cells may live.
+    pub fn budget(&self) -> u32
+        ensures budget { result ≡ self.now.budget }
+        ensures bounded { result ≤ 1048576 }
+
+        // Each object has a cell.
+        ensures few { length self.now.live ≤ self.now.budget }
+    {
+        self.budget
+    }
+
+    /// The least number that a new object may have.
+    pub fn fresh(&self) -> u64
+        ensures { result ≡ self.now.fresh }
+    {
+        self.fresh
+    }
+
     /// Begins an object of zeros behind all others. The answer is `Store` exactly where the number is
     /// below `first` or not above each number added before, or where more cells than the store was
     /// started with would live.
@@ -52,6 +70,9 @@ impl Store {
         ensures ok { OnOk result (add_of self.old number cells read_only ≡ Ok self.new) }
         ensures trap { IfErr result (λ trap. add_of self.old number cells read_only ≡ Err trap) }
         ensures err { OnErr result (self.new ≡ self.old) }
+
+        // Each object has a cell.
+        ensures few { OnOk result (length self.new.live ≤ self.new.budget) }
     {
         let used = self.cells.len();
         let room = self.budget as usize - used;
@@ -95,6 +116,15 @@ impl Store {
         Ok(())
     }
 
+    /// Whether a write to a cell would be made, or the trap that it would give.
+    pub fn may_put(&self, pointer: u64) -> Result<(), Trap>
+        ensures ok { OnOk result ((value : ℕ) → put_of self.now pointer value ≡ Ok (written self.now pointer value)) }
+        ensures trap { IfErr result (λ trap. (value : ℕ) → put_of self.now pointer value ≡ Err trap) }
+    {
+        let _at = reach(&self.rows, pointer, true)?;
+        Ok(())
+    }
+
     /// Gives a cell its starting value, also in an object that may only be read.
     pub fn set_up(&mut self, pointer: u64, value: u64) -> Result<(), Trap>
         requires { value < 2 ^ 44 }
@@ -112,6 +142,7 @@ impl Store {
         ensures live { result ≡ is_live self.old number }
         ensures ended { self.new ≡ end_of self.old number }
         ensures unchanged { IsFalse result → self.new ≡ self.old }
+        ensures one { length self.old.live ≤ length self.new.live + 1 }
     {
         let Some(at) = newest_or_place(&self.rows, u64::from(number)) else {
             return false;

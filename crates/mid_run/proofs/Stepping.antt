@@ -1,81 +1,114 @@
 -- One step of the machine is one step of the meaning.
-use Rattle.std.proofs.Common.{◌≡◌, ℕ, ◌+◌, ◌<◌, ◌%◌, ◌^◌, List, [], ◌∷◌, length, Option, Some, None, sym, ap, ◌∙◌, subst, arith}
+use Rattle.std.proofs.Common.{◌≡◌, ℕ, suc, ◌+◌, ◌<◌, ◌≤◌, ◌^◌, List, [], ◌∷◌, length, drop, Option, Some, None, refl, sym, ap, ◌∙◌, subst, arith}
+use Rattle.std.specs.Prelude.{All, sum_by}
+use Rattle.std.proofs.lemmas.List.Sums.{sum_by-cons}
 use Rattle.srmt_base.specs.declared.event.Event.{Event}
-use Rattle.srmt_base.specs.declared.event.Event.TheVariants.{Byte, Exit as ExitEvent}
-use Rattle.srmt_base.specs.declared.trap.SourceEnd.TheVariants.{Exit as ExitEnd}
+use Rattle.srmt_base.specs.declared.trap.SourceEnd.{SourceEnd}
+use Rattle.srmt_base.specs.declared.trap.SourceEnd.TheVariants.{Trap as TrapEnd}
+use Rattle.srmt_base.specs.Objects.{Object, Objects}
+use Rattle.srmt_base.specs.Memory.{Part}
 use Rattle.mid_code.specs.declared.program.MidProgram.{MidProgram}
 use Rattle.mid_code.specs.declared.program.MidLine.{MidLine}
 use Rattle.mid_code.specs.declared.access.Access.{Access}
-use Rattle.mid_code.specs.declared.access.Access.TheVariants.{Puts, Exits}
 use Rattle.mid_code.specs.Program.{line_at}
 use Rattle.mid_code.specs.Valid.{IsValid}
-use Rattle.mid_code.specs.Machine.{Machine, act}
-use Rattle.mid_code.specs.Meaning.{On, Ends, step, step_by}
-use Rattle.mid_code.specs.Fits.{Fits, AreWithin}
-use Rattle.mid_code.proofs.Fitting.{within_next, step-at, sound_step, place_small, IsSound}
+use Rattle.mid_code.specs.Machine.{Does, Goes, Traps, Reaches, act}
+use Rattle.mid_code.specs.Meaning.{State, On, Ends, reach, step, step_by}
+use Rattle.mid_code.specs.Fits.{Fits, IsPart}
+use Rattle.mid_code.proofs.Keeping.{keeps}
+use Rattle.mid_code.proofs.Acting.{act_fits}
+use Rattle.mid_code.proofs.Naming.{whole, function_kept}
+use Rattle.mid_code.proofs.Fitting.{next_found, does-at, fits_on}
 use Rattle.mid_run.specs.declared.run.MidRun.TheInside.{Inside}
-use Rattle.mid_run.specs.Progress.{Progress, At, Over, FitsIn, Steps}
-use Rattle.mid_run.specs.View.{progress_of, progress_by}
-use Rattle.mid_run.specs.Acts.{machine_at, ActsOn}
-
--- the machine that has not ended
-abbrev pub machine_in : Inside → Machine
-machine_in a = machine_at a.function a.place a.registers.items []
+use Rattle.mid_run.specs.declared.act.Did.{Did}
+use Rattle.mid_run.specs.declared.act.Did.TheVariants.{Went, Trapped, Wants}
+use Rattle.mid_run.specs.Kept.{Kept}
+use Rattle.mid_run.specs.Acts.{CanAct, CanReach, HasDone}
+use Rattle.mid_run.specs.Reaching.{state_of, LeadsTo, HasRoom}
+use Rattle.mid_run.specs.Progress.{Progress, At, Over, FitsIn, Steps, end_of}
+use Rattle.mid_run.specs.View.{progress_of, progress_by, state_in}
+use Rattle.mid_run.proofs.Ready.{can_act}
 
 -- what is known before an instruction
-pub record Stands (program : MidProgram) (p : Progress) (a : Inside) (l : MidLine) : Type 0 where
-  pub here : p ≡ At (machine_in a)
+pub record Stands (program : MidProgram) (p : Progress) (s : State) : Type 0 where
+  pub here : p ≡ At s
   pub valid : IsValid program
-  pub fits : Fits program (machine_in a)
-  pub at : line_at program a.function a.place ≡ Some l
+  pub fits : Fits program s
 
-pub stands : (program : MidProgram) (p : Progress) (a : Inside) (l : MidLine) → IsValid program → FitsIn program p → progress_of a ≡ p → a.over ≡ None → line_at program a.function a.place ≡ Some l → Stands program p a l
-stands program p a l valid fits view none at =
-    let here : p ≡ At (machine_in a) = sym view ∙ ap (λ o. progress_by o a.function a.place a.registers.items) none in
-    record { here = here; valid = valid; fits = subst (FitsIn program) here fits; at = at }
+pub stands : (program : MidProgram) (p : Progress) (a : Inside) → IsValid program → FitsIn program p → progress_of a ≡ p → a.over ≡ None → Stands program p (state_in a)
+stands program p a valid fits view none =
+    let here : p ≡ At (state_in a) = sym view ∙ ap (λ o. progress_by o (state_in a)) none in
+    record { here = here; valid = valid; fits = subst (FitsIn program) here fits }
 
-module _ (program : MidProgram) (p : Progress) (a : Inside) (l : MidLine) (s : Stands program p a l) where
-  pub operands : AreWithin (length a.registers.items) l.mid
-  operands = within_next program (machine_in a) l s.valid s.fits s.at
+-- there is an instruction
+pub found : (program : MidProgram) (p : Progress) (s : State) → Stands program p s → line_at program s.machine.top.function s.machine.top.place ≡ None → ⊥
+found program p s h none = let l = next_found program s.machine h.fits.machine in absurd (cc)
 
-  pub next_place : a.place + 1 < 2 ^ 64
-  next_place = omega (arith, place_small program (machine_in a) s.valid s.fits)
+-- what performing it needs
+pub record IsReady (program : MidProgram) (s : State) (l : MidLine) : Type 0 where
+  pub place : s.machine.top.place + 1 < 2 ^ 32
+  pub few : length program.functions < 65536
+  pub can : CanAct program l.mid s.machine
 
-  by_act : step program (machine_in a) ≡ step_by (act l.mid l.line (machine_in a)) (machine_in a)
-  by_act = step-at program (machine_in a) l s.at
+pub ready : (program : MidProgram) (p : Progress) (s : State) (l : MidLine) → Stands program p s → line_at program s.machine.top.function s.machine.top.place ≡ Some l → IsReady program s l
+ready program p s l h at =
+    let m = h.fits.machine in
+    let n = next_found program s.machine m in
+    let same : n.0 ≡ l = cc in
+    let k = keeps program s.machine.top.function s.machine.top.place m.top.code n.0 h.valid m.top.found n.1 in
+    let kept = function_kept program s.machine.top.function m.top.code h.valid m.top.found in
+    let can = can_act program s.machine m n.0.mid n.0.line h.valid k (act_fits program s.machine m n.0.mid n.0.line h.valid k) in
+    record {
+      place = omega (arith, m.top.place, kept.limit);
+      few = omega (arith, (whole program h.valid).few_functions);
+      can = subst (λ (x : MidLine). CanAct program x.mid s.machine) same can;
+    }
 
-  on_fits : (next : Machine) (events : List Event) → step program (machine_in a) ≡ On next events → Fits program next
-  on_fits next events e = subst (IsSound program) e (sound_step program (machine_in a) s.valid s.fits)
+few_objects : (objects : List Object) → All (λ object. 1 ≤ length object.cells) objects → length objects ≤ sum_by (λ object. length object.cells) objects
+few_objects [] each = omega arith
+few_objects (object ∷ objects) each =
+    let rest = few_objects objects (λ k d h. each (suc k) d (omega arith)) in
+    let first = each 0 object (omega arith) in
+    rw sum_by-cons (omega (arith, rest, first))
 
-  pub went_on : (after : List ℕ) → ActsOn l.mid a.registers.items after None → step program (machine_in a) ≡ On (machine_at a.function (a.place + 1) after []) []
-  went_on after acts = by_act ∙ ap (λ d. step_by d (machine_in a)) (acts a.function a.place l.line [])
+few_in : (part : Part) (s : Objects) → IsPart part s → length s.live ≤ 1048576
+few_in part s h = omega (arith, few_objects s.live h.cells, h.within, h.budget)
 
-  pub put : (value : ℕ) (after : List ℕ) → ActsOn l.mid a.registers.items after (Some (Puts value)) → step program (machine_in a) ≡ On (machine_at a.function (a.place + 1) after []) (Byte (value % 256) ∷ [])
-  put value after acts =
-      by_act ∙ ap (λ d. step_by d (machine_in a)) (acts.1 a.function a.place l.line []) ∙ ap (λ rs. On (machine_at a.function (a.place + 1) rs []) (Byte (value % 256) ∷ [])) (sym acts.0)
+pub has_room : (program : MidProgram) (p : Progress) (frames : Kept) (protected binary : Objects) (input : List ℕ) → Stands program p (state_of frames.machine protected binary input) → frames.room ≡ 2097152 → HasRoom frames protected binary
+has_room program p frames protected binary input h room = record {
+  opened = h.fits.opened;
+  protected_few = few_in _ protected h.fits.memory.protected;
+  binary_few = few_in _ binary h.fits.memory.binary;
+  protected_budget = h.fits.memory.protected.budget;
+  binary_budget = h.fits.memory.binary.budget;
+  room = room;
+}
 
-  pub exited : (value : ℕ) (after : List ℕ) → ActsOn l.mid a.registers.items after (Some (Exits value)) → step program (machine_in a) ≡ Ends (ExitEnd (value % 256)) (ExitEvent (value % 256) ∷ [])
-  exited value after acts = by_act ∙ ap (λ d. step_by d (machine_in a)) (acts.1 a.function a.place l.line [])
+-- a step of the meaning is a step of the run
+pub led : (program : MidProgram) (p : Progress) (s next : State) (events : List Event) (end : Option SourceEnd) → Stands program p s → LeadsTo (step program s) next events end → Steps program p events (progress_by end next) × FitsIn program (progress_by end next)
+led program p s next events None h e =
+    let on : Steps program (At s) events (At next) = e in
+    (subst (λ q. Steps program q events (At next)) (sym h.here) on, fits_on program s next events h.valid h.fits e)
+led program p s next events (Some end) h e =
+    let over : Steps program (At s) events (Over end) = e in
+    (subst (λ q. Steps program q events (Over end)) (sym h.here) over, tt)
 
-  -- where a run that has not ended stands after the instruction
-  next_view : (after : List ℕ) → a.over ≡ None → progress_by a.over a.function (a.place + 1) after ≡ At (machine_at a.function (a.place + 1) after [])
-  next_view after none = ap (λ o. progress_by o a.function (a.place + 1) after) none
+pub end_of-by : (end : Option SourceEnd) (s : State) → end_of (progress_by end s) ≡ end
+end_of-by None s = refl
+end_of-by (Some end) s = refl
 
-  steps_to : (q : Progress) (next : Machine) (events : List Event) → q ≡ At next → step program (machine_in a) ≡ On next events → Steps program p events q × FitsIn program q
-  steps_to q next events is e =
-      let on : Steps program (At (machine_in a)) events (At next) = e in
-      let from_p : Steps program p events (At next) = subst (λ r. Steps program r events (At next)) (sym s.here) on in
-      let fits : FitsIn program (At next) = on_fits next events e in
-      (subst (λ r. Steps program p events r) (sym is) from_p, subst (FitsIn program) (sym is) fits)
+module _ (program : MidProgram) (protected binary : Objects) (input : List ℕ) (before after : Kept) (l : MidLine) where
+  step-act : line_at program before.machine.top.function before.machine.top.place ≡ Some l → (d : Does) → act program l.mid l.line before.machine ≡ d → step program (state_of before.machine protected binary input) ≡ step_by program d (state_of before.machine protected binary input)
+  step-act at d e = ap (λ x. step_by program x (state_of before.machine protected binary input)) (does-at program before.machine l at ∙ e)
 
-  pub goes_on : (after : List ℕ) (access : Option Access) → a.over ≡ None → ActsOn l.mid a.registers.items after access → access ≡ None → Steps program p [] (progress_by a.over a.function (a.place + 1) after) × FitsIn program (progress_by a.over a.function (a.place + 1) after)
-  goes_on after access none acts is = steps_to _ _ [] (next_view after none) (went_on after (subst (ActsOn l.mid a.registers.items after) is acts))
+  -- the machine has gone on
+  pub went_on : line_at program before.machine.top.function before.machine.top.place ≡ Some l → (did : Did) → did ≡ Went → HasDone (act program l.mid l.line before.machine) l.line before after did → LeadsTo (step program (state_of before.machine protected binary input)) (state_of after.machine protected binary input) [] None
+  went_on at did is done = let e = subst (HasDone (act program l.mid l.line before.machine) l.line before after) is done in step-act at (Goes after.machine) e.0
 
-  pub puts : (after : List ℕ) (access : Option Access) (value : ℕ) → a.over ≡ None → ActsOn l.mid a.registers.items after access → access ≡ Some (Puts value) → Steps program p (Byte (value % 256) ∷ []) (progress_by a.over a.function (a.place + 1) after) × FitsIn program (progress_by a.over a.function (a.place + 1) after)
-  puts after access value none acts is = steps_to _ _ (Byte (value % 256) ∷ []) (next_view after none) (put value after (subst (ActsOn l.mid a.registers.items after) is acts))
+  -- it stops
+  pub stopped : line_at program before.machine.top.function before.machine.top.place ≡ Some l → (did : Did) (trap : _) (line : ℕ) → did ≡ Trapped trap line → HasDone (act program l.mid l.line before.machine) l.line before after did → LeadsTo (step program (state_of before.machine protected binary input)) (state_of after.machine protected binary input) [] (Some (TrapEnd trap line))
+  stopped at did trap line is done = let e = subst (HasDone (act program l.mid l.line before.machine) l.line before after) is done in step-act at (Traps trap line) e.0
 
-  pub exits : (after : List ℕ) (access : Option Access) (value : ℕ) → ActsOn l.mid a.registers.items after access → access ≡ Some (Exits value) → Steps program p (ExitEvent (value % 256) ∷ []) (Over (ExitEnd (value % 256)))
-  exits after access value acts is =
-      let e = exited value after (subst (ActsOn l.mid a.registers.items after) is acts) in
-      let on : Steps program (At (machine_in a)) (ExitEvent (value % 256) ∷ []) (Over (ExitEnd (value % 256))) = e in
-      subst (λ q. Steps program q (ExitEvent (value % 256) ∷ []) (Over (ExitEnd (value % 256)))) (sym s.here) on
+  -- it wants something
+  pub wanted : line_at program before.machine.top.function before.machine.top.place ≡ Some l → (did : Did) (access : Access) → did ≡ Wants access → HasDone (act program l.mid l.line before.machine) l.line before after did → (step program (state_of before.machine protected binary input) ≡ reach program access l.line (state_of before.machine protected binary input)) × (after ≡ before) × CanReach access before.machine
+  wanted at did access is done = let e = subst (HasDone (act program l.mid l.line before.machine) l.line before after) is done in (step-act at (Reaches access l.line) e.0, e.1, e.2)

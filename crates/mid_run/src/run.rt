@@ -1,31 +1,43 @@
-ghost use Rattle.std.specs.Prelude.{vec_len, ◌≡◌, ◌≤◌, ◌<◌, ◌^◌, ℕ, List, [], Option, Some, OnOk, OnErr, IfOk, IfErr};
+ghost use Rattle.std.specs.Prelude.{◌≡◌, ◌≤◌, ◌<◌, ◌^◌, ℕ, List, [], Option, Some, OnOk, OnErr, IfOk, IfErr, All};
+ghost use Rattle.std.specs.Option.{option_copied};
 ghost use Rattle.srmt_base.specs.declared.event.Event.{Event};
 ghost use Rattle.srmt_outside.specs.Count.{Rose};
 ghost use Rattle.srmt_outside.specs.Told.{Appends};
+ghost use Rattle.mid_code.specs.Program.{line_at};
 ghost use Rattle.mid_code.specs.Valid.{IsValid};
+ghost use Rattle.mid_code.specs.Start.{FitLimits};
 ghost use Rattle.mid_code.specs.Meaning.{started};
-ghost use Rattle.mid_code.specs.Fits.{AreWithin};
-ghost use Rattle.mid_run.specs.Acts.{ActsOn};
+ghost use Rattle.mid_run.specs.Reaching.{state_of};
 ghost use Rattle.mid_run.specs.Progress.{Progress, At, FitsIn, Steps, Runs, end_of};
 
-use mid_code::{Access, Mid, MidProgram};
-use srmt_base::{Event, Limits, SourceEnd, convert};
+use crate::act::{Did, perform};
+use crate::frames::{Budgets, Frames, Left};
+use crate::reach::reach;
+use crate::statics::begin_statics;
+use cell_store::Store;
+use mid_code::{MidLine, MidProgram};
+use srmt_base::{Limits, SourceEnd};
 use srmt_outside::{Failed, Outlet};
 use std::alloc::{AllocError, Global};
 use std::marker::Model;
 
+/// For how many open objects there is room: each has a cell, and each part has at most 1,048,576.
+const ROOM: u32 = 2_097_152;
+
 /// A run of a program on one thread.
 #[derive(Drop)]
 pub struct MidRun {
-    function: u16,
-    place: usize,
-    registers: Vec<u64>,
+    frames: Frames,
+    protected: Store,
+    binary: Store,
+    input: Vec<u8>,
+    /// The place of the next byte of the input.
+    at: usize,
     over: Option<SourceEnd>,
 }
 
 impl Model for MidRun {
-    ghost use Rattle.mid_code.specs.Fits.{AreWithin};
-    ghost use Rattle.mid_run.specs.Acts.{ActsOn};
+    ghost use Rattle.std.specs.Prelude.{◌≡◌, ◌≤◌, length};
     ghost use Rattle.mid_run.specs.Progress.{Progress};
 
     ghost Value = { Progress };
@@ -33,28 +45,58 @@ impl Model for MidRun {
     ghost use Rattle.mid_run.specs.View.{progress_of};
 
     ghost view = { progress_of };
+
+    ghost invariant = { λ a. (a.at ≤ length a.input.items) × (a.frames.room ≡ 2097152) };
 }
 
 impl MidRun {
-    /// Enters `main`. No instruction reads the input yet, and none spends more of the limits than
-    /// the entry of `main`, for which they have room.
+    /// Begins the static objects and enters `main`. It takes all memory of the run: 16 KiB for each
+    /// activation that the limits allow, 40 bytes for each cell, and 16 MiB for open objects.
     pub fn start(
         alloc: Global,
         program: &MidProgram,
-        _input: Vec<u8>,
-        _limits: Limits,
+        input: Vec<u8>,
+        limits: Limits,
     ) -> Result<Self, AllocError>
-        requires { IsValid program.now }
-        ensures started { IfOk result (λ run. run ≡ At (started program.now)) }
+        requires valid { IsValid program.now }
+        requires limits { FitLimits program.now limits }
+        ensures started { IfOk result (λ run. run ≡ At (started program.now input.items limits)) }
         ensures fits { IfOk result (FitsIn program.now) }
     {
-        let count = program.function(program.main).map_or(0, |f| f.kinds.len());
-        Ok(MidRun {
-            function: program.main,
-            place: 0,
-            registers: vec![in alloc; 0; count]?,
+        let Some(main) = program.function(program.main) else {
+            unreachable!();
+        };
+        let budgets = Budgets {
+            protected: Left {
+                turns: limits.turns - 1,
+                depth: limits.depth - 1,
+            },
+            binary: Left {
+                turns: limits.turns,
+                depth: limits.depth,
+            },
+        };
+        let count = main.kinds.len() as u16;
+        let frames = Frames::start(alloc, program.main, count, budgets, ROOM)?;
+        let protected = begin_statics(alloc, program.main_statics.as_slice(), limits.cells, true)?;
+        let binary = begin_statics(alloc, program.binary_statics.as_slice(), limits.cells, false)?;
+        Ok(MidRun::at_start(frames, protected, binary, input))
+    }
+
+    /// A run that has made no step.
+    fn at_start(frames: Frames, protected: Store, binary: Store, input: Vec<u8>) -> Self
+        requires { frames.room ≡ 2097152 }
+        ensures run { result ≡ At (state_of frames.machine protected binary input.items) }
+        ensures bytes { All (λ byte. byte < 256) input.items }
+    {
+        MidRun {
+            frames,
+            protected,
+            binary,
+            input,
+            at: 0,
             over: None,
-        })
+        }
     }
 
     /// Makes one step: one instruction, with its event. After an end it answers the same end.
@@ -78,24 +120,29 @@ impl MidRun {
         if let Some(end) = self.over {
             return Ok(Some(end));
         }
-        let Some(line) = program.line(self.function, self.place) else {
-            unreachable!()
+        let Some(line) = next_line(program, &self.frames) else {
+            unreachable!();
         };
-        let Some(access) = act(line.mid, &mut self.registers) else {
-            self.place += 1;
-            return Ok(None);
-        };
-        match access {
-            Access::Puts(value) => {
-                outlet.event(Event::Byte((value % 256) as u8))?;
-                self.place += 1;
-                Ok(None)
-            }
-            Access::Exits(value) => {
-                let status = (value % 256) as u8;
-                outlet.event(Event::Exit(status))?;
-                self.over = Some(SourceEnd::Exit(status));
+        match perform(&mut self.frames, program, line) {
+            Did::Went => Ok(None),
+            Did::Trapped(trap, at) => {
+                self.over = Some(SourceEnd::Trap(trap, at));
                 Ok(self.over)
+            }
+            Did::Wants(access) => {
+                let end = reach(
+                    &mut self.frames,
+                    &mut self.protected,
+                    &mut self.binary,
+                    self.input.as_slice(),
+                    &mut self.at,
+                    program,
+                    access,
+                    line.line,
+                    outlet,
+                )?;
+                self.over = end;
+                Ok(end)
             }
         }
     }
@@ -124,24 +171,10 @@ impl MidRun {
     }
 }
 
-/// Performs an instruction on the registers, or says what it wants of the outside.
-pub fn act(mid: Mid, registers: &mut Vec<u64>) -> Option<Access>
-    requires { AreWithin (vec_len registers.old) mid }
-    ensures { ActsOn mid registers.old.items registers.new.items result }
+/// The instruction at which the newest activation stands.
+fn next_line<'a>(program: &'a MidProgram, frames: &Frames) -> Option<&'a MidLine>
+    ensures { option_copied result ≡ line_at program.now frames.now.machine.top.function frames.now.machine.top.place }
 {
-    match mid {
-        Mid::Const { target, value } => registers[usize::from(target)] = value,
-        Mid::Conv {
-            from,
-            to,
-            target,
-            source,
-        } => {
-            let value = registers[usize::from(source)];
-            registers[usize::from(target)] = convert(from, to, value);
-        }
-        Mid::Put { source } => return Some(Access::Puts(registers[usize::from(source)])),
-        Mid::Exit { source } => return Some(Access::Exits(registers[usize::from(source)])),
-    }
-    None
+    let function = program.function(frames.function())?;
+    function.code.get(frames.place() as usize)
 }

@@ -1,7 +1,8 @@
 use Rattle.std.proofs.Common.{◌≡◌, ◌<◌, Some, None, length, get_or, arith, sym, ap, ◌∙◌}
+use Rattle.std.proofs.lemmas.List.{length-map}
 use Rattle.srmt_base.specs.Objects.{Objects, is_live}
-use Rattle.cell_store.specs.Flat.{row_of}
-use Rattle.cell_store.proofs.End.{is_live-flat, end-none, end-row, flat_without_row, row_within}
+use Rattle.cell_store.specs.Flat.{row_of, moved_down}
+use Rattle.cell_store.proofs.End.{is_live-flat, end-none, end-row, flat_without_row, row_within, length-without}
 use Rattle.cell_store.proofs.store.Store.end.Goals as goal
 
 pub returns-in_default-clause-live : goal.returns-in_default-clause-live
@@ -43,3 +44,10 @@ returns-clause-ended c =
     let e : row_of s.rows.items c.args.number ≡ Some (get_or s.rows.items c.in-Some.at c.take_out-row.result) = rw (c.deref.ensures.value, c.from.ensures) at (c.in-Some.ensures.is c.take_out-row.result) in
     let h = end-row s.budget s.fresh s.rows.items s.cells.items c.take_out-row.result c.in-Some.at c.args.number c.self.invariant.laid within e c.take_out-row.ensures.row in
     rw (← c.self.view_is, c.take_out-row.ensures.items, c.close_up.ensures.items) (sym h)
+
+pub returns-clause-one : goal.returns-clause-one
+returns-clause-one c =
+    let s = c.self.inside in
+    let within : c.in-Some.at < length s.rows.items = rw c.deref.ensures.value at c.in-Some.ensures.within in
+    let len = length-without s.rows.items c.in-Some.at (moved_down c.take_out-row.result.cells) within in
+    rw (← c.self.view_is, c.take_out-row.ensures.items, length-map, length-map) (omega (arith, len))

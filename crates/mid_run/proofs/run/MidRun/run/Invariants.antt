@@ -13,4 +13,4 @@ invariant-loop-end g l = record {
 }
 
 abbrev pub decreases-loop-end : goal.decreases-loop-end
-decreases-loop-end g l = to_go l.self
+decreases-loop-end g l = to_go l.program l.self

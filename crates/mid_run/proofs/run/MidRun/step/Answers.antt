@@ -1,49 +1,100 @@
-use Rattle.std.proofs.Common.{◌≡◌, length, vec_len, ◌∙◌, Some, [], ◌∷◌, ap, ◌%◌, sym, arith}
-use Rattle.srmt_base.specs.declared.event.Event.TheVariants.{Byte, Exit as ExitEvent}
+use Rattle.std.proofs.Common.{◌≡◌, ◌+◌, ◌<◌, ◌^◌, [], drop, Some, None, ap, ◌∙◌, sym, subst}
+use Rattle.srmt_base.specs.declared.trap.SourceEnd.TheVariants.{Trap as TrapEnd}
 use Rattle.srmt_outside.proofs.Told.{Appends-nothing}
-use Rattle.mid_run.proofs.Stepping.{stands, operands, next_place, goes_on, puts, exits}
+use Rattle.mid_code.specs.Meaning.{Step, step}
+use Rattle.mid_run.specs.Kept.{Kept}
+use Rattle.mid_run.specs.Progress.{Progress, At, FitsIn, Steps}
+use Rattle.mid_run.specs.Reaching.{state_of, events_of, LeadsTo, HasRoom}
+use Rattle.mid_run.specs.View.{progress_by, state_in}
+use Rattle.mid_run.proofs.Stepping.{stands, found, ready, has_room, led, went_on, stopped, wanted}
 use Rattle.mid_run.proofs.run.MidRun.step.Goals as goal
 
-pub act-requires : goal.act-requires
-act-requires g c =
-    let s = stands c.args.program.now c.args.self.now c.self.inside c.in-Some-line.line c.requires.valid c.requires.fits c.self.view_is c.in_default.is (sym c.line.ensures ∙ c.in-Some-line.is) in
-    let count : vec_len c.self.inside.registers ≡ length c.self.inside.registers.items = c.self.inside.registers.ok.0 in
-    rw count (operands c.args.program.now c.args.self.now c.self.inside c.in-Some-line.line s)
+pub perform-requires-clause-place : goal.perform-requires-clause-place
+perform-requires-clause-place g c =
+    let a = c.self.inside in
+    let s = stands c.args.program.now c.args.self.now c.self.inside c.requires.valid c.requires.fits c.self.view_is c.in_default.is in
+    let r = ready c.args.program.now c.args.self.now (state_in a) c.in-Some-next_line.line.now s (sym c.in-Some-next_line.ensures) in
+    r.place
 
-pub overflow_add-self : goal.overflow_add-self
-overflow_add-self g c =
-    let small = next_place c.args.program.now c.args.self.now c.self.inside c.in-Some-line.line (stands c.args.program.now c.args.self.now c.self.inside c.in-Some-line.line c.requires.valid c.requires.fits c.self.view_is c.in_default.is (sym c.line.ensures ∙ c.in-Some-line.is)) in
-    omega (arith, small)
+pub perform-requires-clause-few : goal.perform-requires-clause-few
+perform-requires-clause-few g c =
+    let a = c.self.inside in
+    let s = stands c.args.program.now c.args.self.now c.self.inside c.requires.valid c.requires.fits c.self.view_is c.in_default.is in
+    let r = ready c.args.program.now c.args.self.now (state_in a) c.in-Some-next_line.line.now s (sym c.in-Some-next_line.ensures) in
+    r.few
 
-pub returns-in_default-act-clause-step : goal.returns-in_default-act-clause-step
-returns-in_default-act-clause-step g c =
-    let s = stands c.args.program.now c.args.self.now c.self.inside c.in-Some-line.line c.requires.valid c.requires.fits c.self.view_is c.in_default.is (sym c.line.ensures ∙ c.in-Some-line.is) in
-    let done = goes_on c.args.program.now c.args.self.now c.self.inside c.in-Some-line.line s c.act.new.registers.items c.act.result c.in_default.is c.act.ensures c.in_default-act.is in
+pub perform-requires-clause-can : goal.perform-requires-clause-can
+perform-requires-clause-can g c =
+    let a = c.self.inside in
+    let s = stands c.args.program.now c.args.self.now c.self.inside c.requires.valid c.requires.fits c.self.view_is c.in_default.is in
+    let r = ready c.args.program.now c.args.self.now (state_in a) c.in-Some-next_line.line.now s (sym c.in-Some-next_line.ensures) in
+    r.can
+
+pub reach-requires-clause-place : goal.reach-requires-clause-place
+reach-requires-clause-place g c =
+    let a = c.self.inside in
+    let s = stands c.args.program.now c.args.self.now c.self.inside c.requires.valid c.requires.fits c.self.view_is c.in_default.is in
+    let r = ready c.args.program.now c.args.self.now (state_in a) c.in-Some-next_line.line.now s (sym c.in-Some-next_line.ensures) in
+    let w = wanted c.args.program.now a.protected a.binary (drop a.at a.input.items) a.frames c.perform.new.frames c.in-Some-next_line.line.now (sym c.in-Some-next_line.ensures) c.perform.result c.in-Wants.access c.in-Wants.is c.perform.ensures in
+    subst (λ (k : Kept). k.machine.top.place + 1 < 2 ^ 32) (sym w.1) r.place
+
+pub reach-requires-clause-room : goal.reach-requires-clause-room
+reach-requires-clause-room g c =
+    let a = c.self.inside in
+    let s = stands c.args.program.now c.args.self.now c.self.inside c.requires.valid c.requires.fits c.self.view_is c.in_default.is in
+    let w = wanted c.args.program.now a.protected a.binary (drop a.at a.input.items) a.frames c.perform.new.frames c.in-Some-next_line.line.now (sym c.in-Some-next_line.ensures) c.perform.result c.in-Wants.access c.in-Wants.is c.perform.ensures in
+    let room = has_room c.args.program.now c.args.self.now a.frames a.protected a.binary (drop a.at a.input.items) s c.self.invariant.1 in
+    subst (λ (k : Kept). HasRoom k a.protected a.binary) (sym w.1) room
+
+pub returns-in-Went-clause-step : goal.returns-in-Went-clause-step
+returns-in-Went-clause-step g c =
+    let a = c.self.inside in
+    let s = stands c.args.program.now c.args.self.now c.self.inside c.requires.valid c.requires.fits c.self.view_is c.in_default.is in
+    let next = state_of c.perform.new.frames.machine a.protected a.binary (drop a.at a.input.items) in
+    let leads = went_on c.args.program.now a.protected a.binary (drop a.at a.input.items) a.frames c.perform.new.frames c.in-Some-next_line.line.now (sym c.in-Some-next_line.ensures) c.perform.result c.in-Went.is c.perform.ensures in
+    let done = led c.args.program.now c.args.self.now (state_in a) next [] None s leads in
+    let view : progress_by a.over next ≡ At next = ap (λ o. progress_by o next) c.in_default.is in
+    ([], subst (Steps c.args.program.now c.args.self.now []) (sym view) done.0, Appends-nothing _)
+
+pub returns-in-Went-clause-fits : goal.returns-in-Went-clause-fits
+returns-in-Went-clause-fits g c =
+    let a = c.self.inside in
+    let s = stands c.args.program.now c.args.self.now c.self.inside c.requires.valid c.requires.fits c.self.view_is c.in_default.is in
+    let next = state_of c.perform.new.frames.machine a.protected a.binary (drop a.at a.input.items) in
+    let leads = went_on c.args.program.now a.protected a.binary (drop a.at a.input.items) a.frames c.perform.new.frames c.in-Some-next_line.line.now (sym c.in-Some-next_line.ensures) c.perform.result c.in-Went.is c.perform.ensures in
+    let done = led c.args.program.now c.args.self.now (state_in a) next [] None s leads in
+    let view : progress_by a.over next ≡ At next = ap (λ o. progress_by o next) c.in_default.is in
+    subst (FitsIn c.args.program.now) (sym view) done.1
+
+pub returns-in-Trapped-clause-step : goal.returns-in-Trapped-clause-step
+returns-in-Trapped-clause-step g c =
+    let a = c.self.inside in
+    let s = stands c.args.program.now c.args.self.now c.self.inside c.requires.valid c.requires.fits c.self.view_is c.in_default.is in
+    let next = state_of c.perform.new.frames.machine a.protected a.binary (drop a.at a.input.items) in
+    let leads = stopped c.args.program.now a.protected a.binary (drop a.at a.input.items) a.frames c.perform.new.frames c.in-Some-next_line.line.now (sym c.in-Some-next_line.ensures) c.perform.result c.in-Trapped.trap c.in-Trapped.at c.in-Trapped.is c.perform.ensures in
+    let done = led c.args.program.now c.args.self.now (state_in a) next [] (Some (TrapEnd c.in-Trapped.trap c.in-Trapped.at)) s leads in
     ([], done.0, Appends-nothing _)
 
-pub returns-in_default-act-clause-fits : goal.returns-in_default-act-clause-fits
-returns-in_default-act-clause-fits g c =
-    let s = stands c.args.program.now c.args.self.now c.self.inside c.in-Some-line.line c.requires.valid c.requires.fits c.self.view_is c.in_default.is (sym c.line.ensures ∙ c.in-Some-line.is) in
-    (goes_on c.args.program.now c.args.self.now c.self.inside c.in-Some-line.line s c.act.new.registers.items c.act.result c.in_default.is c.act.ensures c.in_default-act.is).1
+pub returns-in_ok-end-in-Wants-clause-step : goal.returns-in_ok-end-in-Wants-clause-step
+returns-in_ok-end-in-Wants-clause-step g c =
+    let a = c.self.inside in
+    let s = stands c.args.program.now c.args.self.now c.self.inside c.requires.valid c.requires.fits c.self.view_is c.in_default.is in
+    let w = wanted c.args.program.now a.protected a.binary (drop a.at a.input.items) a.frames c.perform.new.frames c.in-Some-next_line.line.now (sym c.in-Some-next_line.ensures) c.perform.result c.in-Wants.access c.in-Wants.is c.perform.ensures in
+    let reached = rw (w.1, c.as_slice.ensures.value) at c.in_ok-end-in-Wants.ensures.reached in
+    let events = events_of c.in-Wants.access c.in_ok-end-in-Wants.end in
+    let next = state_of c.reach.new.frames.machine c.reach.new.protected c.reach.new.binary (drop c.reach.new.at a.input.items) in
+    let leads : LeadsTo (step c.args.program.now (state_in a)) next events c.in_ok-end-in-Wants.end = subst (λ (x : Step). LeadsTo x next events c.in_ok-end-in-Wants.end) (sym w.0) reached in
+    let done = led c.args.program.now c.args.self.now (state_in a) next events c.in_ok-end-in-Wants.end s leads in
+    (events, done.0, c.in_ok-end-in-Wants.ensures.told)
 
-pub overflow_add-self-in-Puts : goal.overflow_add-self-in-Puts
-overflow_add-self-in-Puts g c =
-    let small = next_place c.args.program.now c.args.self.now c.self.inside c.in-Some-line.line (stands c.args.program.now c.args.self.now c.self.inside c.in-Some-line.line c.requires.valid c.requires.fits c.self.view_is c.in_default.is (sym c.line.ensures ∙ c.in-Some-line.is)) in
-    omega (arith, small)
-
-pub returns-in_ok-event-in-Puts-clause-step : goal.returns-in_ok-event-in-Puts-clause-step
-returns-in_ok-event-in-Puts-clause-step g c =
-    let s = stands c.args.program.now c.args.self.now c.self.inside c.in-Some-line.line c.requires.valid c.requires.fits c.self.view_is c.in_default.is (sym c.line.ensures ∙ c.in-Some-line.is) in
-    let done = puts c.args.program.now c.args.self.now c.self.inside c.in-Some-line.line s c.act.new.registers.items c.act.result c.in-Puts.value c.in_default.is c.act.ensures (c.in-Some-act.is ∙ ap Some c.in-Puts.is) in
-    (Byte (c.in-Puts.value % 256) ∷ [], done.0, c.in_ok-event-in-Puts.ensures.appends)
-
-pub returns-in_ok-event-in-Puts-clause-fits : goal.returns-in_ok-event-in-Puts-clause-fits
-returns-in_ok-event-in-Puts-clause-fits g c =
-    let s = stands c.args.program.now c.args.self.now c.self.inside c.in-Some-line.line c.requires.valid c.requires.fits c.self.view_is c.in_default.is (sym c.line.ensures ∙ c.in-Some-line.is) in
-    (puts c.args.program.now c.args.self.now c.self.inside c.in-Some-line.line s c.act.new.registers.items c.act.result c.in-Puts.value c.in_default.is c.act.ensures (c.in-Some-act.is ∙ ap Some c.in-Puts.is)).1
-
-pub returns-in_ok-event-in-Exits-clause-step : goal.returns-in_ok-event-in-Exits-clause-step
-returns-in_ok-event-in-Exits-clause-step g c =
-    let s = stands c.args.program.now c.args.self.now c.self.inside c.in-Some-line.line c.requires.valid c.requires.fits c.self.view_is c.in_default.is (sym c.line.ensures ∙ c.in-Some-line.is) in
-    let done = exits c.args.program.now c.args.self.now c.self.inside c.in-Some-line.line s c.act.new.registers.items c.act.result c.in-Exits.value c.act.ensures (c.in-Some-act.is ∙ ap Some c.in-Exits.is) in
-    (ExitEvent (c.in-Exits.value % 256) ∷ [], done, c.in_ok-event-in-Exits.ensures.appends)
+pub returns-in_ok-end-in-Wants-clause-fits : goal.returns-in_ok-end-in-Wants-clause-fits
+returns-in_ok-end-in-Wants-clause-fits g c =
+    let a = c.self.inside in
+    let s = stands c.args.program.now c.args.self.now c.self.inside c.requires.valid c.requires.fits c.self.view_is c.in_default.is in
+    let w = wanted c.args.program.now a.protected a.binary (drop a.at a.input.items) a.frames c.perform.new.frames c.in-Some-next_line.line.now (sym c.in-Some-next_line.ensures) c.perform.result c.in-Wants.access c.in-Wants.is c.perform.ensures in
+    let reached = rw (w.1, c.as_slice.ensures.value) at c.in_ok-end-in-Wants.ensures.reached in
+    let events = events_of c.in-Wants.access c.in_ok-end-in-Wants.end in
+    let next = state_of c.reach.new.frames.machine c.reach.new.protected c.reach.new.binary (drop c.reach.new.at a.input.items) in
+    let leads : LeadsTo (step c.args.program.now (state_in a)) next events c.in_ok-end-in-Wants.end = subst (λ (x : Step). LeadsTo x next events c.in_ok-end-in-Wants.end) (sym w.0) reached in
+    let done = led c.args.program.now c.args.self.now (state_in a) next events c.in_ok-end-in-Wants.end s leads in
+    done.1

@@ -1,0 +1,288 @@
+ghost use Rattle.std.specs.Prelude.{◌≡◌, ℕ, ◌+◌, ◌^◌, ◌<◌, ◌≤◌, length, IfOk, All, MatchOption, true, false};
+ghost use Rattle.srmt_base.specs.Memory.{part_if};
+ghost use Rattle.mid_code.specs.Registers.{registers_list};
+ghost use Rattle.mid_code.specs.Program.{function_at};
+ghost use Rattle.mid_code.specs.Machine.{Goes, given, gives, moved_if, counts, part_of_function, calls, calls_value, is_callee, closes, leaves, register, arguments, act};
+ghost use Rattle.mid_run.specs.Kept.{TakesResult};
+ghost use Rattle.mid_run.specs.Acts.{IsThere, CanEnter, IsNewest, CanAct, HasDone};
+
+use crate::frames::Frames;
+use mid_code::{Access, Mid, MidLine, MidProgram, Registers};
+use srmt_base::{Trap, arith, convert, pointer_comparison, pointer_difference, pointer_sum};
+
+/// What an instruction did.
+#[derive(Clone, Copy, Debug)]
+pub(crate) enum Did {
+    /// The machine has gone on.
+    Went,
+    /// It stops at a line, and is as it was.
+    Trapped(Trap, u32),
+    /// It wants this of memory or of the outside, and is as it was.
+    Wants(Access),
+}
+
+/// Performs an instruction, as far as it needs the machine alone.
+pub(crate) fn perform(frames: &mut Frames, program: &MidProgram, line: &MidLine) -> Did
+    requires place { frames.old.machine.top.place + 1 < 2 ^ 32 }
+    requires few { length program.now.functions < 65536 }
+    requires can { CanAct program.now line.now.mid frames.old.machine }
+    ensures { HasDone (act program.now line.now.mid line.now.line frames.old.machine) line.now.line frames.old frames.new result }
+{
+    let at = line.line;
+    match line.mid {
+        Mid::Const { target, value } => set(frames, target, value, at),
+        Mid::Move { target, source } => {
+            let value = frames.read(source);
+            set(frames, target, value, at)
+        }
+        Mid::Arith {
+            op,
+            ty,
+            target,
+            left,
+            right,
+        } => {
+            let outcome = arith(op, ty, frames.read(left), frames.read(right));
+            set_or_trap(frames, target, outcome, at)
+        }
+        Mid::Conv {
+            from,
+            to,
+            target,
+            source,
+        } => {
+            let value = convert(from, to, frames.read(source));
+            set(frames, target, value, at)
+        }
+        Mid::PtrAdd {
+            target,
+            pointer,
+            index,
+            ty,
+            negated,
+            scale,
+        } => {
+            let outcome = pointer_sum(frames.read(pointer), ty, frames.read(index), negated, scale);
+            set_or_trap(frames, target, outcome, at)
+        }
+        Mid::PtrDiff {
+            target,
+            left,
+            right,
+            scale,
+        } => {
+            let outcome = pointer_difference(frames.read(left), frames.read(right), scale);
+            set_or_trap(frames, target, outcome, at)
+        }
+        Mid::PtrCmp {
+            op,
+            target,
+            left,
+            right,
+        } => {
+            let outcome = pointer_comparison(op, frames.read(left), frames.read(right));
+            set_or_trap(frames, target, outcome, at)
+        }
+        Mid::GlobAddr { target, object } => set(frames, target, u64::from(object) * 65536, at),
+        Mid::FunAddr { target, function } => set(frames, target, u64::from(function), at),
+        Mid::Load { target, pointer } => Did::Wants(Access::Loads {
+            target,
+            pointer: frames.read(pointer),
+        }),
+        Mid::Store { pointer, source } => Did::Wants(Access::Stores {
+            pointer: frames.read(pointer),
+            value: frames.read(source),
+        }),
+        Mid::VLoad { target, pointer } => Did::Wants(Access::VolatileLoads {
+            target,
+            pointer: frames.read(pointer),
+        }),
+        Mid::VStore { pointer, source } => Did::Wants(Access::VolatileStores {
+            pointer: frames.read(pointer),
+            value: frames.read(source),
+        }),
+        Mid::Open { target, cells } => Did::Wants(Access::Opens { target, cells }),
+        Mid::Close { place } => close(frames, place, at),
+        Mid::Jump { place } => jump(frames, true, place, at),
+        Mid::JumpZ { source, place } => {
+            let taken = frames.read(source) == 0;
+            jump(frames, taken, place, at)
+        }
+        Mid::JumpN { source, place } => {
+            let taken = frames.read(source) != 0;
+            jump(frames, taken, place, at)
+        }
+        Mid::Turn => turn(frames, program, at),
+        Mid::Call {
+            target,
+            function,
+            args,
+        } => call(frames, program, function, target, &args, at),
+        Mid::CallPtr {
+            target,
+            callee,
+            ty,
+            args,
+        } => {
+            let value = frames.read(callee);
+            call_value(frames, program, value, ty, target, &args, at)
+        }
+        Mid::Return { source } => {
+            let value = frames.read(source);
+            leave(frames, program, value, at)
+        }
+        Mid::Put { source } => Did::Wants(Access::Puts(frames.read(source))),
+        Mid::Get { target } => Did::Wants(Access::Gets { target }),
+        Mid::Exit { source } => Did::Wants(Access::Exits(frames.read(source))),
+    }
+}
+
+/// A value goes into the target register.
+fn set(frames: &mut Frames, target: u16, value: u64, at: u32) -> Did
+    requires place { frames.old.machine.top.place + 1 < 2 ^ 32 }
+    requires target { IsThere frames.old.machine target }
+    requires small { value < 2 ^ 44 }
+    ensures { HasDone (Goes (given target value frames.old.machine)) at frames.old frames.new result }
+{
+    let _line = at;
+    frames.give(target, value);
+    Did::Went
+}
+
+/// A result goes into the target register, or its trap stops the run.
+fn set_or_trap(frames: &mut Frames, target: u16, outcome: Result<u64, Trap>, at: u32) -> Did
+    requires place { frames.old.machine.top.place + 1 < 2 ^ 32 }
+    requires target { IsThere frames.old.machine target }
+    requires small { IfOk outcome (λ value. value < 2 ^ 44) }
+    ensures { HasDone (gives target at frames.old.machine outcome) at frames.old frames.new result }
+{
+    match outcome {
+        Ok(value) => set(frames, target, value, at),
+        Err(trap) => Did::Trapped(trap, at),
+    }
+}
+
+/// A jump is taken or not.
+fn jump(frames: &mut Frames, taken: bool, place: u32, at: u32) -> Did
+    requires { frames.old.machine.top.place + 1 < 2 ^ 32 }
+    ensures { HasDone (Goes (moved_if taken place frames.old.machine)) at frames.old frames.new result }
+{
+    let _line = at;
+    if taken {
+        frames.go(place);
+    } else {
+        frames.pass();
+    }
+    Did::Went
+}
+
+/// Counts a turn.
+fn turn(frames: &mut Frames, program: &MidProgram, at: u32) -> Did
+    requires { frames.old.machine.top.place + 1 < 2 ^ 32 }
+    ensures { HasDone (counts (part_of_function program.now frames.old.machine.top.function) at frames.old.machine) at frames.old frames.new result }
+{
+    let protected = frames.function() <= program.main_functions;
+    if frames.left(protected).turns == 0 {
+        return Did::Trapped(Trap::Turns, at);
+    }
+    frames.turn(protected);
+    Did::Went
+}
+
+/// Calls a function by its number.
+fn call(
+    frames: &mut Frames,
+    program: &MidProgram,
+    number: u16,
+    into: u16,
+    args: &Registers,
+    at: u32,
+) -> Did
+    requires place { frames.old.machine.top.place + 1 < 2 ^ 32 }
+    requires can { CanEnter program.now number (length (registers_list args.now)) }
+    requires there { All (IsThere frames.old.machine) (registers_list args.now) }
+    ensures { HasDone (calls program.now number (function_at program.now number) into (arguments frames.old.machine args.now) frames.old.machine) at frames.old frames.new result }
+{
+    let _line = at;
+    let Some(code) = program.function(number) else {
+        unreachable!();
+    };
+    let protected = number <= program.main_functions;
+    let left = frames.left(protected);
+    if left.depth == 0 {
+        return Did::Trapped(Trap::Depth, code.line);
+    }
+    if left.turns == 0 {
+        return Did::Trapped(Trap::Turns, code.line);
+    }
+    let count = code.kinds.len() as u16;
+    frames.enter(protected, number, count, into, args.as_slice());
+    Did::Went
+}
+
+/// Calls the function whose number a value is.
+fn call_value(
+    frames: &mut Frames,
+    program: &MidProgram,
+    value: u64,
+    ty: u16,
+    into: u16,
+    args: &Registers,
+    at: u32,
+) -> Did
+    requires place { frames.old.machine.top.place + 1 < 2 ^ 32 }
+    requires few { length program.now.functions < 65536 }
+    requires can { is_callee program.now ty value ≡ true → CanEnter program.now value (length (registers_list args.now)) }
+    requires there { All (IsThere frames.old.machine) (registers_list args.now) }
+    ensures { HasDone (calls_value program.now ty value at into (arguments frames.old.machine args.now) frames.old.machine) at frames.old frames.new result }
+{
+    if value == 0 {
+        return Did::Trapped(Trap::NullPointer, at);
+    }
+    match callee(program, value, ty) {
+        None => Did::Trapped(Trap::NotAFunction, at),
+        Some(number) => call(frames, program, number, into, args, at),
+    }
+}
+
+/// The function of a type whose number a value is, if it is one that may be called.
+fn callee(program: &MidProgram, value: u64, ty: u16) -> Option<u16>
+    requires { length program.now.functions < 65536 }
+    ensures { MatchOption result (is_callee program.now ty value ≡ false) (λ number. (number ≡ value) × (is_callee program.now ty value ≡ true)) }
+{
+    if value >= 65536 {
+        return None;
+    }
+    let number = value as u16;
+    let code = program.function(number)?;
+    if code.ty == ty && number != program.main {
+        Some(number)
+    } else {
+        None
+    }
+}
+
+/// The newest object of the activation is to end.
+fn close(frames: &Frames, place: u32, at: u32) -> Did
+    requires { IsNewest place frames.now.machine.top.opened }
+    ensures { HasDone (closes place at frames.now.machine.top.opened) at frames.now frames.now result }
+{
+    let _line = at;
+    let _place = place;
+    let Some(number) = frames.newest() else {
+        unreachable!();
+    };
+    Did::Wants(Access::Closes { number })
+}
+
+/// Leaves the function with its result.
+fn leave(frames: &mut Frames, program: &MidProgram, value: u64, at: u32) -> Did
+    requires caller { TakesResult frames.old.machine.top.into frames.old.machine.below }
+    requires small { value < 2 ^ 44 }
+    ensures { HasDone (leaves (part_of_function program.now frames.old.machine.top.function) value frames.old.machine.below frames.old.machine) at frames.old frames.new result }
+{
+    let _line = at;
+    let protected = frames.function() <= program.main_functions;
+    frames.leave(protected, value);
+    Did::Went
+}
