@@ -16,3 +16,4 @@ pub mod Lowering
 pub mod Reaching
 pub mod Faults
 pub mod Counting
+pub mod Alternating

@@ -9,6 +9,8 @@ ghost use Rattle.machine.specs.declared.thread_end.ThreadEnd.TheVariants.{WriteF
 ghost use Rattle.pair_core.specs.Duo.{opening_duo, put_on};
 ghost use Rattle.pair_core.specs.Turns.{end_of_step, left_by, CountsOn, DuoFits, IsCountable, Turns};
 
+use crate::judging::verdict_of;
+use crate::verdict::Ran;
 use crate::way::Way;
 use machine::{LastCall, Machine, OneStep, Stepped, Taken, ThreadEnd, lead_step, trail_step};
 use mid_code::Pair;
@@ -175,5 +177,30 @@ impl Duo {
                 stepped
             }
         }
+    }
+}
+
+impl Duo {
+    ghost use Rattle.std.specs.Prelude.{MatchOption};
+    ghost use Rattle.pair_core.specs.InTurn.{BothOver, IsRan};
+
+    /// The answer of the run, where both sides have ended.
+    pub fn ran(&self) -> Option<Ran>
+        ensures { MatchOption result (BothOver self.now → ⊥) (IsRan self.now) }
+    {
+        let Some(lead) = &self.lead_over else {
+            return None;
+        };
+        let Some(trail) = &self.trail_over else {
+            return None;
+        };
+        Some(Ran {
+            verdict: verdict_of(*lead, *trail),
+            lead_steps: self.lead_steps,
+            trail_steps: self.trail_steps,
+            words: self.words_sent,
+            acks: self.acks_sent,
+            applied: false,
+        })
     }
 }
