@@ -13,3 +13,5 @@ pub mod Sounds
 pub mod Answering
 pub mod Measure
 pub mod Lowering
+pub mod Turning
+pub mod Acting
