@@ -1,5 +1,5 @@
 -- A run that has ended is answered by an ended fit, and follows the ideal run.
-use Rattle.std.proofs.Common.{◌≡◌, ℕ, ◌⊎◌, inl, inr, Bool, true, false, ◌&&◌, List, nat_eq, refl, sym, ap, ap₂, ◌∙◌, subst, eq-eqb}
+use Rattle.std.proofs.Common.{◌≡◌, ℕ, ◌⊎◌, inl, inr, ◌&&◌, List, refl, sym, ap, ap₂, ◌∙◌, eq-eqb}
 use Rattle.srmt_base.specs.declared.event.Event.{Event}
 use Rattle.srmt_base.specs.declared.limits.Limits.{Limits}
 use Rattle.srmt_base.specs.declared.trap.SourceEnd.{SourceEnd}
@@ -10,7 +10,7 @@ use Rattle.mid_code.specs.Pairs.{HasSites}
 use Rattle.world.specs.Ideal.{IsIdeal}
 use Rattle.machine.specs.declared.thread_end.ThreadEnd.{ThreadEnd}
 use Rattle.machine.specs.declared.thread_end.ThreadEnd.TheVariants.{WriteFault}
-use Rattle.machine.specs.Side.{Outcome, Ended}
+use Rattle.machine.specs.Side.{Ended}
 use Rattle.pair_core.specs.Verdict.{verdict_of_ends, exit_verdict, trap_verdict}
 use Rattle.pair_core.specs.Duo.{DuoState, Reached}
 use Rattle.pair_core.specs.Laws.{end_as, AsIdeal, Sound}

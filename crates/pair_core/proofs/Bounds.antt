@@ -1,6 +1,5 @@
 -- What each side has taken and sent, beside the ideal run.
-use Rattle.std.proofs.Common.{◌≡◌, ℕ, zero, suc, ◌+◌, ◌<◌, ◌≤◌, ◌⊎◌, inl, inr, Bool, true, false, List, [], ◌∷◌, ◌++◌, length, take, refl, sym, ap, ◌∙◌, subst, arith, length-append, append_assoc, append-nil}
-use Rattle.srmt_base.specs.declared.event.Event.{Event}
+use Rattle.std.proofs.Common.{◌≡◌, ℕ, suc, ◌<◌, ◌≤◌, ◌⊎◌, inl, inr, true, false, List, [], ◌∷◌, ◌++◌, length, refl, sym, ap, ◌∙◌, subst, arith, length-append, append_assoc}
 use Rattle.srmt_base.specs.declared.limits.Limits.{Limits}
 use Rattle.srmt_base.specs.declared.side.Side.TheVariants.{Lead, Trail}
 use Rattle.srmt_base.specs.declared.trap.SourceEnd.{SourceEnd}
@@ -10,24 +9,23 @@ use Rattle.mid_code.specs.Machine.{Machine}
 use Rattle.mid_code.specs.Valid.{IsValid}
 use Rattle.word_stream.specs.declared.request.Request.{Request}
 use Rattle.word_stream.specs.Exchange.{checks_of, acks_of}
-use Rattle.world.specs.World.{Asked, ask}
+use Rattle.world.specs.World.{ask}
 use Rattle.world.specs.Requests.{Wants, Runs, Dies, Requests, Lost, wants}
-use Rattle.world.specs.Ideal.{Here, Ended as PlaceEnded, IdealState, ideal}
-use Rattle.machine.specs.declared.thread_end.ThreadEnd.{ThreadEnd}
+use Rattle.world.specs.Ideal.{Here, Ended as PlaceEnded, ideal}
 use Rattle.machine.specs.declared.thread_end.ThreadEnd.TheVariants.{PeerEnded, WriteFault}
-use Rattle.machine.specs.Side.{SideState, Outcome, Went, Ended}
+use Rattle.machine.specs.Side.{SideState, Went, Ended}
 use Rattle.machine.specs.Steps.{side_op, takes_at, may_send_at}
 use Rattle.pair_core.specs.History.{Past}
 use Rattle.pair_core.specs.Fit.{IsPrefix}
 use Rattle.pair_core.specs.Duo.{is_over}
 use Rattle.pair_core.specs.Laws.{end_as, IsCleanEnd, IsClean}
-use Rattle.pair_core.proofs.Prefixes.{prefix_refl, prefix_more, prefix_take}
-use Rattle.pair_core.proofs.Groups.{Stands, next_line, lead_side, trail_side, never_dies, never_lost}
+use Rattle.pair_core.proofs.Prefixes.{prefix_refl, prefix_take}
+use Rattle.pair_core.proofs.Groups.{next_line, never_dies, never_lost}
 use Rattle.pair_core.proofs.Steps.{lead_runs_takes, trail_runs_takes, trail_runs_sends}
 use Rattle.pair_core.proofs.Exchanges.{checks_some, lead_asks_takes, lead_acts_takes, lead_hears_takes, trail_checks_takes, trail_acks_takes, trail_ends_takes, trail_ends_sends}
 use Rattle.pair_core.proofs.Ideals.{next_asks, stands_point, stands_owed}
-use Rattle.pair_core.proofs.Lead.{Shows, LeadAt, LeadStarts, LeadAwaits, LeadActs, LeadEnded, LeadFailed}
-use Rattle.pair_core.proofs.Trail.{Tells, TrailAt, TrailStarts, TrailChecks, TrailAcks, TrailEnding, TrailEnded, TrailGone}
+use Rattle.pair_core.proofs.Lead.{LeadAt, LeadStarts, LeadAwaits, LeadActs, LeadEnded, LeadFailed}
+use Rattle.pair_core.proofs.Trail.{TrailAt, TrailStarts, TrailChecks, TrailAcks, TrailEnding, TrailEnded, TrailGone}
 
 -- an end as the source's is clean, and no other
 pub clean_as : (end : SourceEnd) → IsCleanEnd (end_as end)
@@ -112,9 +110,10 @@ module _ (program : MidProgram) (input : List ℕ) (limits : Limits) (valid : Is
           start_takes Lost h = let stands = stands_point program input limits valid i m here in never_lost program m stands (next_line program m stands) h
       lead_hearing (LeadAwaits m q heard x rest here h acks shows) takes =
           let all : (ideal program input limits (suc i)).echoes ≡ ((ideal program input limits i).echoes ++ heard) ++ x ∷ rest =
-              asked_echoes i m q here h ∙ ap (λ t. (ideal program input limits i).echoes ++ t) acks ∙ sym (append_assoc (ideal program input limits i).echoes heard (x ∷ rest)) in
-          (shows.sent_so ∙ sym (asked_words i m q here h),
-           omega (arith, ap length all, ap length shows.took_so, length-append ((ideal program input limits i).echoes ++ heard) (x ∷ rest)))
+          asked_echoes i m q here h ∙ ap (λ t. (ideal program input limits i).echoes ++ t) acks ∙ sym (append_assoc (ideal program input limits i).echoes heard (x ∷ rest)) in (
+            shows.sent_so ∙ sym (asked_words i m q here h),
+            omega (arith, ap length all, ap length shows.took_so, length-append ((ideal program input limits i).echoes ++ heard) (x ∷ rest)),
+          )
       lead_hearing (LeadActs m q here h shows) takes =
           let stands = stands_point program input limits valid i m here in
           let no : true ≡ false = sym takes ∙ ap (λ t. takes_at (side_op Lead program t)) (lead_known _ shows.at_so) ∙ lead_acts_takes program m stands q h in absurd (cc)
@@ -215,9 +214,10 @@ module _ (program : MidProgram) (input : List ℕ) (limits : Limits) (valid : Is
           let no : false ≡ true = sym takes ∙ ap (λ t. takes_at (side_op Trail program t)) (trail_known _ tells.at_so) ∙ trail_checks_takes program m stands q h done x rest checks in absurd (cc)
       trail_acking (TrailAcks m q here h tells) takes sends =
           let stands = stands_point program input limits valid j m here in
-          let some = checks_some program m stands q h in
-          (tells.took_so ∙ sym (asked_words j m q here h),
-           omega (arith, ap length (asked_words j m q here h), length-append (ideal program input limits j).words (checks_of q), ap length some.2))
+          let some = checks_some program m stands q h in (
+            tells.took_so ∙ sym (asked_words j m q here h),
+            omega (arith, ap length (asked_words j m q here h), length-append (ideal program input limits j).words (checks_of q), ap length some.2),
+          )
       trail_acking (TrailEnding m q r end owed h over tells) takes sends =
           let stands = stands_owed program input limits valid j m r owed in
           let no : true ≡ false = sym sends ∙ ap (λ t. may_send_at (side_op Trail program t)) (trail_known _ tells.at_so) ∙ trail_ends_sends program m stands q h r end over in absurd (cc)

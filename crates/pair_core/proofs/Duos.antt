@@ -1,5 +1,5 @@
 -- Both sides beside the ideal run, after every event of the core.
-use Rattle.std.proofs.Common.{◌≡◌, ℕ, zero, suc, ◌+◌, ◌<◌, ◌≤◌, ◌⊎◌, inl, inr, Bool, true, false, List, [], ◌∷◌, ◌++◌, length, Option, Some, None, refl, sym, ap, ap₂, ◌∙◌, subst, subst₂, arith, length-append, append_assoc, append-nil, add-one}
+use Rattle.std.proofs.Common.{◌≡◌, ℕ, suc, ◌+◌, ◌≤◌, inl, inr, Bool, true, false, List, [], ◌∷◌, ◌++◌, length, Option, Some, None, refl, sym, ap, ap₂, ◌∙◌, subst, subst₂, arith, length-append, append_assoc, append-nil}
 use Rattle.std.proofs.lemmas.Bool.{cases_lt}
 use Rattle.srmt_base.specs.declared.event.Event.{Event}
 use Rattle.srmt_base.specs.declared.limits.Limits.{Limits}
@@ -8,28 +8,24 @@ use Rattle.srmt_base.specs.declared.side.Side.TheVariants.{Lead, Trail}
 use Rattle.srmt_base.specs.declared.trap.SourceEnd.{SourceEnd}
 use Rattle.mid_code.specs.declared.program.MidFunction.{MidFunction}
 use Rattle.mid_code.specs.declared.program.MidProgram.{MidProgram}
-use Rattle.mid_code.specs.Machine.{Machine}
 use Rattle.mid_code.specs.Meaning.{started}
 use Rattle.mid_code.specs.Program.{function_at}
 use Rattle.mid_code.specs.Valid.{IsValid}
 use Rattle.mid_code.specs.declared.mid.Mid.{Mid}
 use Rattle.mid_code.specs.declared.version.VersionOp.{VersionOp}
 use Rattle.mid_code.specs.Versions.{leading_ops, trailing_ops}
-use Rattle.world.specs.World.{WorldState, opened}
-use Rattle.world.specs.Ideal.{Here, Ended as PlaceEnded, IdealState, ideal}
-use Rattle.machine.specs.declared.thread_end.ThreadEnd.TheVariants.{PeerEnded, WriteFault}
-use Rattle.machine.specs.Side.{SideState, Meet, Plain, Got, Closed, Failed, Outcome, Went, Ended, StepGives, opening}
-use Rattle.machine.specs.Steps.{side_op, takes_at, may_send_at}
+use Rattle.world.specs.Ideal.{Ended as PlaceEnded, ideal}
+use Rattle.machine.specs.declared.thread_end.ThreadEnd.TheVariants.{WriteFault}
+use Rattle.machine.specs.Side.{SideState, Meet, Plain, Got, Closed, Failed, Outcome, Went, Ended, StepGives}
+use Rattle.machine.specs.Steps.{side_op, takes_at}
 use Rattle.machine.specs.Meets.{MeetsBy, next_of, CanMeet}
 use Rattle.pair_core.specs.History.{Past, opening_past, word_met, grown, HasPast}
-use Rattle.pair_core.specs.Fit.{IsPrefix}
-use Rattle.pair_core.specs.Duo.{DuoState, opening_duo, is_over, View, view_of, Finds, Waits, Meets, finds, put_on, Turned, made, turn_found, turn_at, turn_of, Entry, Scheduled, run_on, scheduled}
-use Rattle.pair_core.specs.Laws.{end_as}
+use Rattle.pair_core.specs.Duo.{DuoState, opening_duo, is_over, view_of, Finds, Waits, Meets, finds, put_on, made, turn_found, turn_at, turn_of, Entry, Scheduled, run_on, scheduled}
 use Rattle.pair_core.proofs.Prefixes.{none_added, prefix_length, prefix_trans}
-use Rattle.pair_core.proofs.Groups.{group_start, group_place, put_at, within_group, lead_side, trail_side}
+use Rattle.pair_core.proofs.Groups.{group_start, put_at, within_group}
 use Rattle.pair_core.proofs.Ideals.{grows, below_end}
-use Rattle.pair_core.proofs.Lead.{Shows, LeadAt, LeadStarts, LeadMeets, lead_step}
-use Rattle.pair_core.proofs.Trail.{Tells, TrailAt, TrailStarts, TrailMeets, trail_as, trail_step}
+use Rattle.pair_core.proofs.Lead.{LeadAt, LeadStarts, LeadMeets, lead_step}
+use Rattle.pair_core.proofs.Trail.{TrailAt, TrailStarts, TrailMeets, trail_as, trail_step}
 use Rattle.pair_core.proofs.Bounds.{lead_words, lead_final, lead_hearing, trail_echoes, trail_words, trail_final, trail_checking}
 use Rattle.pair_core.proofs.Finding.{IsFound, found, alike, writes_nothing}
 
@@ -208,7 +204,7 @@ module _ (program : MidProgram) (input : List ℕ) (limits : Limits) (valid : Is
           let sent = trail_echoes program input limits valid trail_next_at.0 (Quits g.lead) trail_after trail_next_at.1 in
           let way = taken_way g.lead.sent g.trail.took duo.words (word_met meet) left g.words coming in
           let short : length (ideal program input limits trail_next_at.0).words ≤ length (ideal program input limits final.0).words =
-              omega (arith, took, ap length way, length-append (g.trail.took ++ word_met meet) left, ap length final.1) in
+          omega (arith, took, ap length way, length-append (g.trail.took ++ word_met meet) left, ap length final.1) in
           let few = paced_at final.0 trail_next_at.0 short in
           none_added g.trail.sent trail_gives.sent (omega (arith, few, ap length sent, ap length final.2, ap length g.acks, length-append g.lead.took duo.acks))
 
@@ -237,7 +233,7 @@ module _ (program : MidProgram) (input : List ℕ) (limits : Limits) (valid : Is
       good_trail =
           let same = alike program s duo.world g.trail.world meet in
           let state : made Trail trail_gives left duo ≡ made Trail (next_of Trail program s duo.world meet) left duo =
-              ap₂ (λ o t. made Trail (record { outcome = o; sent = t; world = duo.world; events = [] }) left duo) (sym same.outcome) (sym same.sent) in
+          ap₂ (λ o t. made Trail (record { outcome = o; sent = t; world = duo.world; events = [] }) left duo) (sym same.outcome) (sym same.sent) in
           let none : events ≡ events ++ (next_of Trail program s duo.world meet).events = sym (append-nil events) ∙ ap (λ t. events ++ t) (sym (writes_nothing program s duo.world meet)) in
           subst₂ (λ d e. Good program input limits d e) state none good_trail_own
 

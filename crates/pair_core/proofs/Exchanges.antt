@@ -1,17 +1,17 @@
 -- The steps of both sides within the group of an instruction that asks the world.
-use Rattle.std.proofs.Common.{◌≡◌, ℕ, zero, suc, ◌+◌, ◌<◌, ◌≤◌, Bool, true, false, List, [], ◌∷◌, ◌++◌, length, take, refl, sym, ap, ap₂, ◌∙◌, subst, arith}
+use Rattle.std.proofs.Common.{◌≡◌, ℕ, suc, ◌+◌, ◌≤◌, true, false, List, [], ◌∷◌, ◌++◌, length, take, sym, ap, ap₂, ◌∙◌, arith}
 use Rattle.srmt_base.specs.declared.side.Side.TheVariants.{Lead, Trail}
 use Rattle.srmt_base.specs.declared.trap.SourceEnd.{SourceEnd}
 use Rattle.mid_code.specs.declared.program.MidProgram.{MidProgram}
 use Rattle.mid_code.specs.Versions.{leading_ops, trailing_ops}
-use Rattle.mid_code.specs.Machine.{Machine, passed}
+use Rattle.mid_code.specs.Machine.{Machine}
 use Rattle.word_stream.specs.declared.request.Request.{Request}
 use Rattle.word_stream.specs.declared.request.Response.{Response}
 use Rattle.word_stream.specs.Exchange.{is_guarded, response_words, checks_of, acks_of}
-use Rattle.world.specs.World.{WorldState, Asked, ask, stopped}
+use Rattle.world.specs.World.{WorldState, ask, stopped}
 use Rattle.world.specs.Requests.{Requests, wants, Back, Over, resume}
 use Rattle.machine.specs.declared.thread_end.ThreadEnd.TheVariants.{PeerEnded, WriteFault}
-use Rattle.machine.specs.Side.{SideState, Plain, Got, Closed, Failed, Outcome, Went, Ended, StepGives}
+use Rattle.machine.specs.Side.{Plain, Got, Closed, Failed, Went, Ended}
 use Rattle.machine.specs.Steps.{side_op, takes_at, may_send_at, passed_on}
 use Rattle.machine.specs.Leading.{lead_next}
 use Rattle.machine.specs.Trailing.{trail_next}
@@ -131,6 +131,9 @@ module _ (program : MidProgram) (m : Machine) (stands : Stands program m) (q : R
   -- the sides stand at an instruction, and where they go on
   pub acks_few : length (acks_of q) ≤ 17
   acks_few = omega (arith, ap length g.acks)
+
+  pub checks_few : length (checks_of q) ≤ 17
+  checks_few = omega (arith, ap length g.checks)
 
   pub lead_ask_here : IsPresent Lead program (lead_side program m 0 [])
   lead_ask_here = (_, ask_op program m stands n q g)

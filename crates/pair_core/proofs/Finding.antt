@@ -1,16 +1,16 @@
 -- What a step finds is what it can meet.
-use Rattle.std.proofs.Common.{◌≡◌, ℕ, zero, suc, ◌+◌, ◌<◌, ◌≤◌, ◌⊎◌, inl, inr, Bool, true, false, ◌&&◌, not, List, [], ◌∷◌, ◌++◌, length, Option, Some, None, nat_lt, refl, sym, ap, ◌∙◌, subst, arith, ltb-true}
+use Rattle.std.proofs.Common.{◌≡◌, ℕ, ◌+◌, ◌<◌, Bool, true, false, ◌&&◌, not, List, [], ◌∷◌, ◌++◌, length, Option, Some, None, nat_lt, refl, sym, ap, ltb-true}
 use Rattle.srmt_base.specs.declared.side.Side.{Side}
-use Rattle.srmt_base.specs.declared.side.Side.TheVariants.{Lead, Trail}
+use Rattle.srmt_base.specs.declared.side.Side.TheVariants.{Trail}
 use Rattle.mid_code.specs.declared.program.MidProgram.{MidProgram}
 use Rattle.mid_code.specs.declared.version.VersionOp.{VersionOp}
 use Rattle.mid_code.specs.declared.version.VersionOp.TheVariants.{Copied, Ask, Await, Act, Check, Ack, End}
 use Rattle.mid_code.specs.declared.version.VersionLine.{VersionLine}
 use Rattle.world.specs.World.{WorldState}
-use Rattle.machine.specs.Side.{SideState, Meet, Plain, Got, Closed, Failed, Outcome, StepGives}
+use Rattle.machine.specs.Side.{SideState, Meet, Plain, Closed, StepGives}
 use Rattle.machine.specs.Steps.{side_op, takes_at, may_send_at, step_room}
 use Rattle.machine.specs.Trailing.{trail_op, trail_at, trail_next}
-use Rattle.machine.specs.Meets.{MeetsBy, next_of, CanMeet}
+use Rattle.machine.specs.Meets.{MeetsBy, next_of}
 use Rattle.pair_core.specs.History.{word_met}
 use Rattle.pair_core.specs.Duo.{View, Finds, Waits, Meets, finds_word, failed_by, meet_by, finds_room, is_crowded, finds_by, finds}
 

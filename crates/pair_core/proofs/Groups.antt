@@ -1,16 +1,14 @@
 -- The group of instructions that stands for one instruction of middle code, on either side. This is
 -- the one place that looks at the instructions one by one.
-use Rattle.std.proofs.Common.{◌≡◌, ℕ, zero, suc, ◌+◌, ◌<◌, ◌≤◌, ◌%◌, Bool, true, List, [], ◌∷◌, ◌++◌, length, map, Option, Some, None, slice_get, slice_set, option_and_then, refl, sym, ap, ◌∙◌, subst, arith}
+use Rattle.std.proofs.Common.{◌≡◌, ℕ, suc, ◌+◌, ◌<◌, ◌≤◌, ◌%◌, true, List, [], ◌∷◌, length, Option, Some, None, slice_get, option_and_then, refl, sym, ap, ◌∙◌, subst, arith}
 use Rattle.srmt_base.specs.declared.event.Event.{Event}
 use Rattle.srmt_base.specs.declared.event.Event.TheVariants.{Byte}
-use Rattle.srmt_base.specs.declared.side.Side.TheVariants.{Lead, Trail}
 use Rattle.srmt_base.specs.declared.trap.Trap.{Trap}
 use Rattle.srmt_base.specs.declared.trap.SourceEnd.{SourceEnd}
 use Rattle.srmt_base.specs.declared.trap.SourceEnd.TheVariants.{Exit as SourceExit}
 use Rattle.srmt_base.specs.declared.word.Kind.TheVariants.{Check as CheckKind, Ack as AckKind}
 use Rattle.srmt_base.specs.declared.word.Site.{Site}
 use Rattle.srmt_base.specs.Word.{word_of}
-use Rattle.mid_code.specs.declared.access.Access.{Access}
 use Rattle.mid_code.specs.declared.access.Access.TheVariants.{Puts, Exits}
 use Rattle.mid_code.specs.declared.mid.Mid.{Mid}
 use Rattle.mid_code.specs.declared.mid.Mid.TheVariants.{Const, Conv, Put, Exit}
@@ -21,12 +19,11 @@ use Rattle.mid_code.specs.declared.version.Asks.{Asks}
 use Rattle.mid_code.specs.declared.version.Asks.TheVariants.{Put as AskPut, Exit as AskExit}
 use Rattle.mid_code.specs.declared.version.VersionOp.{VersionOp}
 use Rattle.mid_code.specs.declared.version.VersionOp.TheVariants.{Copied, Ask, Await, Act, Check, Ack, End}
-use Rattle.mid_code.specs.declared.version.VersionLine.{VersionLine}
 use Rattle.mid_code.specs.Program.{function_at, line_at}
 use Rattle.mid_code.specs.Classes.{site_of, site_at, protected_functions}
 use Rattle.mid_code.specs.Versions.{leading_ops, trailing_ops, with_line, versions_from, version_at}
 use Rattle.mid_code.specs.Machine.{Machine, Does, Goes, Traps, Reaches, Lost as Nowhere, register, passed, given, act, act_at, does}
-use Rattle.mid_code.specs.Meaning.{On, step, step_by}
+use Rattle.mid_code.specs.Meaning.{On, step_by}
 use Rattle.mid_code.specs.Fits.{Fits}
 use Rattle.mid_code.specs.Valid.{IsValid}
 use Rattle.mid_code.proofs.Fetching.{version_place, group_of, fetch, moved-next}
@@ -35,10 +32,10 @@ use Rattle.word_stream.specs.declared.request.Request.{Request}
 use Rattle.word_stream.specs.declared.request.Response.{Response}
 use Rattle.word_stream.specs.declared.request.Response.TheVariants.{Done}
 use Rattle.word_stream.specs.Exchange.{request_site, operands_of, is_guarded, response_words, checks_of, acks_of}
-use Rattle.world.specs.Requests.{Wants, Runs, Dies, Requests, Lost, next_site, request_by, wants_by, wants, Resumed, Back, Over, resumed, resume_by, resume}
+use Rattle.world.specs.Requests.{Runs, Dies, Requests, Lost, next_site, request_by, wants_by, wants, Back, Over, resume_by, resume}
 use Rattle.machine.specs.declared.thread_end.ThreadEnd.TheVariants.{Exit as ExitEnd}
-use Rattle.machine.specs.Side.{SideState, Outcome, Went, Ended}
-use Rattle.machine.specs.Steps.{side_op, passed_on}
+use Rattle.machine.specs.Side.{SideState, Went, Ended}
+use Rattle.machine.specs.Steps.{passed_on}
 use Rattle.machine.specs.Leading.{act_request, answered}
 use Rattle.pair_core.specs.Laws.{end_as}
 
@@ -208,8 +205,10 @@ module _ (program : MidProgram) (m : Machine) (q : Request) where
     where
       none : (r : Response) → response_words q r ≡ []
       none Done = refl
+
       by_back : (r : Response) (next : Machine) → resume_by (does program m) m r ≡ Back next → next ≡ passed m
       by_back r next back = let f : Back (passed m) ≡ Back next = sym (ap (λ d. resume_by d m r) does_so) ∙ back in cc
+
       not_over : (r : Response) (end : SourceEnd) → resume_by (does program m) m r ≡ Over end → ⊥
       not_over r end over = let f : Back (passed m) ≡ Over end = sym (ap (λ d. resume_by d m r) does_so) ∙ over in cc
   exchange_group (Exit source) line does_so h =
@@ -232,8 +231,10 @@ module _ (program : MidProgram) (m : Machine) (q : Request) where
     where
       none : (r : Response) → response_words q r ≡ []
       none Done = refl
+
       not_back : (r : Response) (next : Machine) → resume_by (does program m) m r ≡ Back next → ⊥
       not_back r next back = let f : Over (SourceExit (register m source % 256)) ≡ Back next = sym (ap (λ d. resume_by d m r) does_so) ∙ back in cc
+
       by_over : (r : Response) (end : SourceEnd) → resume_by (does program m) m r ≡ Over end → SourceExit (register m source % 256) ≡ end
       by_over r end over = let f : Over (SourceExit (register m source % 256)) ≡ Over end = sym (ap (λ d. resume_by d m r) does_so) ∙ over in cc
 

@@ -1,22 +1,21 @@
 -- The ideal run: what it writes only grows, and where it has ended it stays.
-use Rattle.std.proofs.Common.{◌≡◌, ℕ, zero, suc, ◌+◌, ◌-◌, ◌<◌, ◌≤◌, Bool, true, List, [], ◌∷◌, ◌++◌, length, refl, sym, ap, ◌∙◌, subst, arith, inl, inr, length-append, append-nil, append_assoc}
+use Rattle.std.proofs.Common.{◌≡◌, ℕ, zero, suc, ◌+◌, ◌-◌, ◌≤◌, true, List, [], ◌++◌, length, refl, sym, ap, ◌∙◌, subst, arith, inl, inr, length-append, append-nil}
 use Rattle.std.proofs.lemmas.Bool.{cases_lt}
 use Rattle.srmt_base.specs.declared.event.Event.{Event}
 use Rattle.srmt_base.specs.declared.limits.Limits.{Limits}
 use Rattle.srmt_base.specs.declared.trap.SourceEnd.{SourceEnd}
 use Rattle.mid_code.specs.declared.program.MidProgram.{MidProgram}
 use Rattle.mid_code.specs.Machine.{Machine}
-use Rattle.mid_code.specs.Meaning.{started}
 use Rattle.mid_code.specs.Valid.{IsValid}
 use Rattle.mid_code.proofs.Fitting.{fits_started}
 use Rattle.word_stream.specs.declared.request.Request.{Request}
 use Rattle.word_stream.specs.declared.request.Response.{Response}
 use Rattle.word_stream.specs.Exchange.{is_guarded, response_words, checks_of, acks_of}
-use Rattle.world.specs.World.{Asked, ask}
+use Rattle.world.specs.World.{ask}
 use Rattle.world.specs.Requests.{Wants, Runs, Dies, Requests, Lost, wants, Resumed, Back, Over, resume}
 use Rattle.world.specs.Ideal.{Place, Here, Owed, Ended, IdealState, place_by, words_owed, requested, here_next, owed_next, next_by, ideal_next, ideal}
 use Rattle.pair_core.specs.Fit.{IsPrefix}
-use Rattle.pair_core.proofs.Prefixes.{prefix_refl, prefix_more, prefix_trans}
+use Rattle.pair_core.proofs.Prefixes.{prefix_refl, prefix_trans}
 use Rattle.pair_core.proofs.Groups.{Stands, next_line, never_dies, never_lost, stands_runs, stands_back}
 use Rattle.pair_core.proofs.Exchanges.{asks_guarded, same_count}
 
@@ -95,12 +94,12 @@ module _ (program : MidProgram) (c : IdealState) where
   next_twice m q here stands h =
       ap (ideal_next program) (next_asks m q here stands h)
       ∙ ap (λ x. record {
-          place = place_by (resume program m (ask c.world q).response);
-          world = (ask c.world q).world;
-          words = (c.words ++ checks_of q) ++ words_owed x (ask c.world q).response;
-          echoes = c.echoes ++ acks_of q;
-          events = c.events ++ (ask c.world q).events;
-        }) h
+        place = place_by (resume program m (ask c.world q).response);
+        world = (ask c.world q).world;
+        words = (c.words ++ checks_of q) ++ words_owed x (ask c.world q).response;
+        echoes = c.echoes ++ acks_of q;
+        events = c.events ++ (ask c.world q).events;
+      }) h
 
   grows_here : (m : Machine) → Stands program m → (x : Wants) → wants program m ≡ x → Grows c (here_next x program m c)
   grows_here m stands (Runs next) h = grows_words c (record c { place = Here next }) [] (sym (append-nil c.words)) refl refl
@@ -154,7 +153,7 @@ module _ (program : MidProgram) (input : List ℕ) (limits : Limits) (valid : Is
   grows_by (suc k) i =
       let e : suc (k + i) ≡ suc k + i = omega arith in
       subst (λ x. Grows (ideal program input limits i) (ideal program input limits x)) e
-        (grows_on (ideal program input limits i) (ideal program input limits (k + i)) (ideal program input limits (suc (k + i))) (grows_by k i) (grows_next program (ideal program input limits (k + i)) (fits_point (k + i))))
+      (grows_on (ideal program input limits i) (ideal program input limits (k + i)) (ideal program input limits (suc (k + i))) (grows_by k i) (grows_next program (ideal program input limits (k + i)) (fits_point (k + i))))
 
   pub grows : (i j : ℕ) → i ≤ j → Grows (ideal program input limits i) (ideal program input limits j)
   grows i j h =

@@ -1,31 +1,29 @@
 -- The leading side beside the ideal run.
-use Rattle.std.proofs.Common.{◌≡◌, ℕ, zero, suc, ◌+◌, ◌<◌, ◌≤◌, Bool, true, false, List, [], ◌∷◌, ◌++◌, length, take, refl, sym, ap, ap₂, ◌∙◌, subst, subst₂, arith, length-append, append-nil, append_assoc}
+use Rattle.std.proofs.Common.{◌≡◌, ℕ, suc, ◌+◌, List, [], ◌∷◌, ◌++◌, length, take, refl, sym, ap, ap₂, ◌∙◌, subst, subst₂, arith, append-nil, append_assoc}
 use Rattle.srmt_base.specs.declared.event.Event.{Event}
 use Rattle.srmt_base.specs.declared.limits.Limits.{Limits}
 use Rattle.srmt_base.specs.declared.side.Side.{Side}
-use Rattle.srmt_base.specs.declared.side.Side.TheVariants.{Lead, Trail}
+use Rattle.srmt_base.specs.declared.side.Side.TheVariants.{Lead}
 use Rattle.srmt_base.specs.declared.trap.SourceEnd.{SourceEnd}
 use Rattle.mid_code.specs.declared.program.MidProgram.{MidProgram}
 use Rattle.mid_code.specs.Machine.{Machine}
 use Rattle.mid_code.specs.Valid.{IsValid}
 use Rattle.word_stream.specs.declared.request.Request.{Request}
-use Rattle.word_stream.specs.Exchange.{response_words, checks_of, acks_of}
-use Rattle.world.specs.World.{WorldState, Asked, ask, stopped}
+use Rattle.word_stream.specs.Exchange.{checks_of, acks_of}
+use Rattle.world.specs.World.{WorldState, ask, stopped}
 use Rattle.world.specs.Requests.{Wants, Runs, Dies, Requests, Lost, wants, Resumed, Back, Over, resume}
-use Rattle.world.specs.Ideal.{Here, Owed, Ended as PlaceEnded, IdealState, place_by, ideal}
+use Rattle.world.specs.Ideal.{Here, Ended as PlaceEnded, IdealState, place_by, ideal}
 use Rattle.machine.specs.declared.thread_end.ThreadEnd.TheVariants.{WriteFault}
 use Rattle.machine.specs.Side.{SideState, Meet, Plain, Got, Closed, Failed, Outcome, Went, Ended, StepGives}
-use Rattle.machine.specs.Steps.{side_op, takes_at}
-use Rattle.machine.specs.Leading.{lead_next}
 use Rattle.machine.specs.Meets.{next_of, CanMeet}
 use Rattle.pair_core.specs.History.{Past, word_met, grown}
 use Rattle.pair_core.specs.Fit.{IsPrefix}
 use Rattle.pair_core.specs.Laws.{end_as}
-use Rattle.pair_core.proofs.Prefixes.{prefix_trans, prefix_more, next_of_two}
-use Rattle.pair_core.proofs.Groups.{Stands, next_line, lead_side, never_dies, never_lost}
-use Rattle.pair_core.proofs.Steps.{gave, lead_goes, lead_runs_takes}
+use Rattle.pair_core.proofs.Prefixes.{prefix_trans, next_of_two}
+use Rattle.pair_core.proofs.Groups.{next_line, lead_side, never_dies, never_lost}
+use Rattle.pair_core.proofs.Steps.{lead_goes, lead_runs_takes}
 use Rattle.pair_core.proofs.Exchanges.{acks_some, lead_asks, lead_asks_takes, lead_hears_last, lead_hears_more, lead_hears_takes, lead_acts_back, lead_acts_over, lead_acts_takes, lead_fails}
-use Rattle.pair_core.proofs.Ideals.{asked_state, answered_state, next_runs, next_asks, next_twice, grows, stands_point}
+use Rattle.pair_core.proofs.Ideals.{answered_state, next_runs, next_asks, next_twice, grows, stands_point}
 
 -- what a history shows, part by part
 pub record Shows (past : Past) (at : Outcome) (w : WorldState) (took sent : List ℕ) (events : List Event) : Type 0 where
@@ -104,9 +102,11 @@ module _ (program : MidProgram) (input : List ℕ) (limits : Limits) (valid : Is
         (x : Wants) → wants program m ≡ x → (meet : Meet) → CanMeet Lead program (lead_side program m 0 []) c.world meet → LeadGoes (after meet)
     from_start m here shows (Runs next) h Plain can =
         let stands = stands_point program input limits valid i m here in
-        let e = next_runs program c m next here h in
-        (suc i, subst (λ d. LeadAt program d (after Plain)) (sym e) (LeadStarts next refl
-          (shows_on Lead program past _ s Plain _ _ _ _ _ _ _ _ shows at (lead_goes program m stands (next_line program m stands) next c.world h) (append-nil _) (append-nil _) (append-nil _))))
+        let e = next_runs program c m next here h in (
+          suc i,
+          subst (λ d. LeadAt program d (after Plain)) (sym e) (LeadStarts next refl
+              (shows_on Lead program past _ s Plain _ _ _ _ _ _ _ _ shows at (lead_goes program m stands (next_line program m stands) next c.world h) (append-nil _) (append-nil _) (append-nil _))),
+        )
     from_start m here shows (Runs next) h (Got word) can =
         let stands = stands_point program input limits valid i m here in
         let no = lead_runs_takes program m stands (next_line program m stands) next h in absurd (cc)
@@ -122,9 +122,11 @@ module _ (program : MidProgram) (input : List ℕ) (limits : Limits) (valid : Is
         let stands = stands_point program input limits valid i m here in absurd (never_lost program m stands (next_line program m stands) h)
     from_start m here shows (Requests q) h Plain can =
         let stands = stands_point program input limits valid i m here in
-        let some = acks_some program m stands q h in
-        (i, LeadAwaits m q [] some.0 some.1 here h some.2
-          (shows_on Lead program past _ s Plain _ _ _ _ _ _ _ _ shows at (lead_asks program m stands q h c.world) refl refl (append-nil _)))
+        let some = acks_some program m stands q h in (
+          i,
+          LeadAwaits m q [] some.0 some.1 here h some.2
+              (shows_on Lead program past _ s Plain _ _ _ _ _ _ _ _ shows at (lead_asks program m stands q h c.world) refl refl (append-nil _)),
+        )
     from_start m here shows (Requests q) h (Got word) can =
         let stands = stands_point program input limits valid i m here in
         let no = lead_asks_takes program m stands q h in absurd (cc)
@@ -140,14 +142,18 @@ module _ (program : MidProgram) (input : List ℕ) (limits : Limits) (valid : Is
         Shows past (Went (lead_side program m 1 heard)) c.world (c.echoes ++ heard) (c.words ++ checks_of q) c.events → LeadGoes (after (Got x))
     hears m q heard x [] here h acks shows =
         let stands = stands_point program input limits valid i m here in
-        let took : (c.echoes ++ heard) ++ x ∷ [] ≡ c.echoes ++ acks_of q = append_assoc c.echoes heard (x ∷ []) ∙ ap (λ t. c.echoes ++ t) (sym acks) in
-        (i, LeadActs m q here h
-          (shows_on Lead program past _ s (Got x) _ _ _ _ _ _ _ _ shows at (lead_hears_last program m stands q h c.world heard x acks) took (append-nil _) (append-nil _)))
+        let took : (c.echoes ++ heard) ++ x ∷ [] ≡ c.echoes ++ acks_of q = append_assoc c.echoes heard (x ∷ []) ∙ ap (λ t. c.echoes ++ t) (sym acks) in (
+          i,
+          LeadActs m q here h
+              (shows_on Lead program past _ s (Got x) _ _ _ _ _ _ _ _ shows at (lead_hears_last program m stands q h c.world heard x acks) took (append-nil _) (append-nil _)),
+        )
     hears m q heard x (y ∷ rest) here h acks shows =
         let stands = stands_point program input limits valid i m here in
-        let more : acks_of q ≡ (heard ++ x ∷ []) ++ y ∷ rest = acks ∙ sym (append_assoc heard (x ∷ []) (y ∷ rest)) in
-        (i, LeadAwaits m q (heard ++ x ∷ []) y rest here h more
-          (shows_on Lead program past _ s (Got x) _ _ _ _ _ _ _ _ shows at (lead_hears_more program m stands q h c.world heard x y rest acks) (append_assoc c.echoes heard (x ∷ [])) (append-nil _) (append-nil _)))
+        let more : acks_of q ≡ (heard ++ x ∷ []) ++ y ∷ rest = acks ∙ sym (append_assoc heard (x ∷ []) (y ∷ rest)) in (
+          i,
+          LeadAwaits m q (heard ++ x ∷ []) y rest here h more
+              (shows_on Lead program past _ s (Got x) _ _ _ _ _ _ _ _ shows at (lead_hears_more program m stands q h c.world heard x y rest acks) (append_assoc c.echoes heard (x ∷ [])) (append-nil _) (append-nil _)),
+        )
 
     from_await : (m : Machine) (q : Request) (heard : List ℕ) (x : ℕ) (rest : List ℕ) → c.place ≡ Here m → wants program m ≡ Requests q → acks_of q ≡ heard ++ x ∷ rest →
         Shows past (Went (lead_side program m 1 heard)) c.world (c.echoes ++ heard) (c.words ++ checks_of q) c.events →
@@ -162,7 +168,7 @@ module _ (program : MidProgram) (input : List ℕ) (limits : Limits) (valid : Is
     from_await m q heard x rest here h acks shows (Got word) can right =
         let stands = stands_point program input limits valid i m here in
         let all : (ideal program input limits (suc i)).echoes ≡ (c.echoes ++ heard) ++ x ∷ rest =
-            ap (λ d. d.echoes) (next_asks program c m q here stands h) ∙ ap (λ t. c.echoes ++ t) acks ∙ sym (append_assoc c.echoes heard (x ∷ rest)) in
+        ap (λ d. d.echoes) (next_asks program c m q here stands h) ∙ ap (λ t. c.echoes ++ t) acks ∙ sym (append_assoc c.echoes heard (x ∷ rest)) in
         let same : word ≡ x = next_echo (suc i) right.0 (c.echoes ++ heard) rest word x (subst (λ t. IsPrefix (t ++ word ∷ []) (ideal program input limits right.0).echoes) shows.took_so right.1) all in
         subst (λ y. LeadGoes (after (Got y))) (sym same) (hears m q heard x rest here h acks shows)
 
@@ -172,11 +178,11 @@ module _ (program : MidProgram) (input : List ℕ) (limits : Limits) (valid : Is
     acted m q here h shows (Back next) back =
         let stands = stands_point program input limits valid i m here in
         LeadStarts next refl
-          (shows_on Lead program past _ s Plain _ _ _ _ _ _ _ _ shows at (lead_acts_back program m stands q h c.world next back) (append-nil _) refl refl)
+        (shows_on Lead program past _ s Plain _ _ _ _ _ _ _ _ shows at (lead_acts_back program m stands q h c.world next back) (append-nil _) refl refl)
     acted m q here h shows (Over end) over =
         let stands = stands_point program input limits valid i m here in
         LeadEnded end refl
-          (shows_on Lead program past _ s Plain _ _ _ _ _ _ _ _ shows at (lead_acts_over program m stands q h c.world end over) (append-nil _) refl refl)
+        (shows_on Lead program past _ s Plain _ _ _ _ _ _ _ _ shows at (lead_acts_over program m stands q h c.world end over) (append-nil _) refl refl)
 
     from_act : (m : Machine) (q : Request) → c.place ≡ Here m → wants program m ≡ Requests q →
         Shows past (Went (lead_side program m 2 [])) c.world (c.echoes ++ acks_of q) (c.words ++ checks_of q) c.events →
@@ -185,9 +191,11 @@ module _ (program : MidProgram) (input : List ℕ) (limits : Limits) (valid : Is
         let stands = stands_point program input limits valid i m here in
         (suc (suc i), subst (λ d. LeadAt program d (after Plain)) (sym (next_twice program c m q here stands h)) (acted m q here h shows (resume program m (ask c.world q).response) refl))
     from_act m q here h shows (Failed written) can =
-        let stands = stands_point program input limits valid i m here in
-        (i, LeadFailed m q written here h
-          (shows_on Lead program past _ s (Failed written) _ _ _ _ _ _ _ _ shows at (lead_fails program m stands q h c.world written) (append-nil _) (append-nil _) refl))
+        let stands = stands_point program input limits valid i m here in (
+          i,
+          LeadFailed m q written here h
+              (shows_on Lead program past _ s (Failed written) _ _ _ _ _ _ _ _ shows at (lead_fails program m stands q h c.world written) (append-nil _) (append-nil _) refl),
+        )
     from_act m q here h shows (Got word) can =
         let stands = stands_point program input limits valid i m here in
         let no = lead_acts_takes program m stands q h in absurd (cc)

@@ -15,3 +15,6 @@ pub mod Measure
 pub mod Lowering
 pub mod Turning
 pub mod Acting
+pub mod Reaching
+pub mod Faults
+pub mod Counting

@@ -1,21 +1,21 @@
 -- What holds of both sides beside the ideal run, as callers read it.
-use Rattle.std.proofs.Common.{◌≡◌, ℕ, zero, suc, ◌+◌, ◌<◌, ◌≤◌, ◌⊎◌, inl, inr, Bool, true, false, List, [], ◌∷◌, ◌++◌, length, refl, sym, ap, ◌∙◌, subst, subst₂, arith}
+use Rattle.std.proofs.Common.{◌≡◌, ℕ, ◌⊎◌, inl, inr, true, List, sym, ap, ◌∙◌, subst, subst₂}
 use Rattle.srmt_base.specs.declared.event.Event.{Event}
 use Rattle.srmt_base.specs.declared.limits.Limits.{Limits}
 use Rattle.srmt_base.specs.declared.trap.SourceEnd.{SourceEnd}
 use Rattle.mid_code.specs.declared.program.MidProgram.{MidProgram}
 use Rattle.mid_code.specs.Valid.{IsValid}
 use Rattle.mid_code.specs.Pairs.{HasSites}
-use Rattle.world.specs.Ideal.{Ended as PlaceEnded, IdealState, ideal, IsIdeal}
+use Rattle.world.specs.Ideal.{Ended as PlaceEnded, ideal, IsIdeal}
 use Rattle.machine.specs.declared.thread_end.ThreadEnd.{ThreadEnd}
 use Rattle.machine.specs.declared.thread_end.ThreadEnd.TheVariants.{PeerEnded, WriteFault}
-use Rattle.machine.specs.Side.{SideState, Outcome, Went, Ended}
+use Rattle.machine.specs.Side.{Ended}
 use Rattle.pair_core.specs.Fit.{IsPrefix, IsOver, Fit}
 use Rattle.pair_core.specs.Duo.{DuoState, is_over, Entry, scheduled, Reached}
 use Rattle.pair_core.specs.Laws.{end_as, IsClean, IdealWords, IdealEvents, AsIdeal, Sound}
 use Rattle.pair_core.proofs.Prefixes.{prefix_trans}
 use Rattle.pair_core.proofs.Ideals.{below_end, one_end}
-use Rattle.pair_core.proofs.Bounds.{not_closed, not_fault, lead_words, lead_events, lead_clean, lead_final, trail_clean, trail_final}
+use Rattle.pair_core.proofs.Bounds.{not_closed, lead_words, lead_events, lead_clean, lead_final, trail_clean, trail_final}
 use Rattle.pair_core.proofs.Duos.{Good, Quits, good_scheduled}
 use Rattle.pair_core.proofs.Standing.{goes_on}
 
@@ -66,18 +66,18 @@ module _ (program : MidProgram) (input : List ℕ) (limits : Limits) (valid : Is
       elim final.3 as (λ _. (a ≡ WriteFault) ⊎ AsIdeal program input limits a b g.lead.sent events) [
         | inr fault ↦ inl (same_end _ _ (sym at_lead ∙ fault))
         | inl ended ↦ elim (trail_final program input limits valid g.j (Quits g.lead) g.trail g.trail_at (trail_ended b trail)) as (λ _. (a ≡ WriteFault) ⊎ AsIdeal program input limits a b g.lead.sent events) [
-            | inr quit ↦ inl (same_end _ _ (sym at_lead ∙ quit.0))
-            | inl done ↦
-                let one = one_end program input limits valid final.0 g.j ended.0 done.0 ended.1 done.1 in
-                let places : PlaceEnded done.0 ≡ PlaceEnded ended.0 = sym done.1 ∙ ap (λ c. c.place) (sym one) ∙ ended.1 in
-                let same : done.0 ≡ ended.0 = cc in
-                inr (record {
-                  end = ended.0;
-                  lead_end = same_end _ _ (sym at_lead ∙ ended.2);
-                  trail_end = same_end _ _ (sym at_trail ∙ done.2) ∙ ap end_as same;
-                  whole = record { steps = final.0; ended = ended.1; words_so = sym final.1; events_so = sym ended.3 ∙ sym g.written };
-                })
-          ]
+          | inr quit ↦ inl (same_end _ _ (sym at_lead ∙ quit.0))
+          | inl done ↦
+              let one = one_end program input limits valid final.0 g.j ended.0 done.0 ended.1 done.1 in
+              let places : PlaceEnded done.0 ≡ PlaceEnded ended.0 = sym done.1 ∙ ap (λ c. c.place) (sym one) ∙ ended.1 in
+              let same : done.0 ≡ ended.0 = cc in
+              inr (record {
+                end = ended.0;
+                lead_end = same_end _ _ (sym at_lead ∙ ended.2);
+                trail_end = same_end _ _ (sym at_trail ∙ done.2) ∙ ap end_as same;
+                whole = record { steps = final.0; ended = ended.1; words_so = sym final.1; events_so = sym ended.3 ∙ sym g.written };
+              })
+        ]
       ]
 
   pub sound : Sound program input limits duo events

@@ -1,5 +1,5 @@
 -- The core never stands still.
-use Rattle.std.proofs.Common.{◌≡◌, ℕ, zero, suc, ◌+◌, ◌<◌, ◌≤◌, ◌⊎◌, inl, inr, Bool, true, false, List, [], ◌∷◌, ◌++◌, length, Option, None, refl, sym, ap, ◌∙◌, subst, arith, length-append}
+use Rattle.std.proofs.Common.{◌≡◌, ℕ, suc, ◌<◌, ◌≤◌, ◌⊎◌, inl, inr, Bool, true, false, List, [], length, None, refl, sym, ap, ◌∙◌, arith, length-append}
 use Rattle.std.proofs.lemmas.Bool.{cases_lt}
 use Rattle.srmt_base.specs.declared.event.Event.{Event}
 use Rattle.srmt_base.specs.declared.limits.Limits.{Limits}
@@ -8,13 +8,12 @@ use Rattle.srmt_base.specs.declared.side.Side.TheVariants.{Lead, Trail}
 use Rattle.mid_code.specs.declared.program.MidProgram.{MidProgram}
 use Rattle.mid_code.specs.Valid.{IsValid}
 use Rattle.world.specs.Ideal.{ideal}
-use Rattle.machine.specs.declared.thread_end.ThreadEnd.{ThreadEnd}
-use Rattle.machine.specs.declared.thread_end.Stepped.TheVariants.{Went as Made, NotYet, Ended as MadeLast}
-use Rattle.machine.specs.Side.{SideState, Outcome, Went, Ended, StepGives}
+use Rattle.machine.specs.declared.thread_end.Stepped.TheVariants.{NotYet}
+use Rattle.machine.specs.Side.{SideState, Outcome, Went, Ended}
 use Rattle.machine.specs.Steps.{side_op, takes_at, may_send_at}
 use Rattle.machine.specs.Meets.{next_of}
 use Rattle.pair_core.specs.Fit.{IsOver}
-use Rattle.pair_core.specs.Duo.{DuoState, is_over, View, view_of, Finds, Waits, Meets, finds, stepped_of, turn_found, turn_at, turn_of}
+use Rattle.pair_core.specs.Duo.{DuoState, is_over, view_of, Finds, Waits, Meets, finds, stepped_of, turn_found, turn_at, turn_of}
 use Rattle.pair_core.specs.Laws.{CanGo}
 use Rattle.pair_core.proofs.Prefixes.{prefix_length}
 use Rattle.pair_core.proofs.Ideals.{grows}
@@ -91,9 +90,9 @@ module _ (program : MidProgram) (input : List ℕ) (limits : Limits) (valid : Is
         elim (tried Lead program duo s lead) as (λ _. CanGo program Lead duo ⊎ CanGo program Trail duo ⊎ (IsOver duo.lead × IsOver duo.trail)) [
           | inl goes ↦ inl goes
           | inr waits ↦ elim (tried Trail program duo t trail) as (λ _. CanGo program Lead duo ⊎ CanGo program Trail duo ⊎ (IsOver duo.lead × IsOver duo.trail)) [
-              | inl goes ↦ inr (inl goes)
-              | inr too ↦ absurd (standstill waits too)
-            ]
+            | inl goes ↦ inr (inl goes)
+            | inr too ↦ absurd (standstill waits too)
+          ]
         ]
 
   not_alone : (side : Side) (taking sending : Bool) → (view_of side duo).peer_over ≡ true → Why taking sending (view_of side duo) → ⊥

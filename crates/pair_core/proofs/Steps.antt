@@ -1,12 +1,10 @@
 -- The steps of both sides within the group of one instruction: the laws by which the runs of whole
 -- programs know them.
-use Rattle.std.proofs.Common.{◌≡◌, ℕ, zero, suc, ◌+◌, ◌<◌, ◌≤◌, ◌%◌, Bool, true, false, List, [], ◌∷◌, ◌++◌, length, map, take, Option, Some, None, slice_get, ◌==◌, if◌then◌else◌, refl, sym, ap, ap₂, ◌∙◌, subst, arith, eq-eqb}
+use Rattle.std.proofs.Common.{◌≡◌, ℕ, ◌+◌, ◌<◌, false, List, [], ◌∷◌, ◌++◌, length, take, Some, slice_get, if◌then◌else◌, refl, sym, ap, ap₂, ◌∙◌, subst, arith, eq-eqb}
 use Rattle.srmt_base.specs.declared.event.Event.{Event}
 use Rattle.srmt_base.specs.declared.side.Side.{Side}
 use Rattle.srmt_base.specs.declared.side.Side.TheVariants.{Lead, Trail}
-use Rattle.srmt_base.specs.declared.trap.Trap.{Trap}
 use Rattle.srmt_base.specs.declared.trap.SourceEnd.{SourceEnd}
-use Rattle.srmt_base.specs.declared.trap.SourceEnd.TheVariants.{Trap as SourceTrap}
 use Rattle.srmt_base.specs.declared.word.Kind.TheVariants.{Check as CheckKind, Ack as AckKind}
 use Rattle.srmt_base.specs.Word.{word_of}
 use Rattle.mid_code.specs.declared.mid.Mid.{Mid}
@@ -19,16 +17,16 @@ use Rattle.mid_code.specs.Versions.{leading_ops, trailing_ops, with_line}
 use Rattle.mid_code.specs.Machine.{Machine, register, passed}
 use Rattle.word_stream.specs.declared.request.Request.{Request}
 use Rattle.word_stream.specs.declared.request.Response.{Response}
-use Rattle.word_stream.specs.Exchange.{response_words, checks_of, acks_of}
-use Rattle.world.specs.World.{WorldState, Asked, ask, stopped}
-use Rattle.world.specs.Requests.{Wants, Runs, Dies, Requests, next_site, wants, Back, Over, resume}
+use Rattle.word_stream.specs.Exchange.{checks_of, acks_of}
+use Rattle.world.specs.World.{WorldState, ask, stopped}
+use Rattle.world.specs.Requests.{Runs, next_site, wants, Over, resume}
 use Rattle.machine.specs.declared.thread_end.ThreadEnd.TheVariants.{Echo, Mismatch, PeerEnded, WriteFault}
 use Rattle.machine.specs.Side.{SideState, Plain, Got, Closed, Failed, Outcome, Went, Ended, StepGives}
 use Rattle.machine.specs.Steps.{side_op, takes_at, may_send_at, passed_on, performed, quiet}
 use Rattle.machine.specs.Leading.{lead_at, lead_next, acts}
 use Rattle.machine.specs.Trailing.{trail_at, trail_next}
 use Rattle.pair_core.specs.Laws.{end_as}
-use Rattle.pair_core.proofs.Groups.{Stands, Next, group_start, group_place, put_at, within_group, lead_side, trail_side, op_within, next_start, passed_within, CopiedGroup, ExchangeGroup, group_runs, group_asks, never_dies}
+use Rattle.pair_core.proofs.Groups.{Stands, Next, group_start, group_place, put_at, lead_side, trail_side, op_within, next_start, passed_within, CopiedGroup, ExchangeGroup, group_runs}
 
 abbrev pub gave : Outcome → List ℕ → WorldState → List Event → StepGives
 gave outcome sent w events = record { outcome = outcome; sent = sent; world = w; events = events }

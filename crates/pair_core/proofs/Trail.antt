@@ -1,31 +1,29 @@
 -- The trailing side beside the ideal run.
-use Rattle.std.proofs.Common.{◌≡◌, ℕ, zero, suc, ◌+◌, ◌<◌, ◌≤◌, Bool, true, false, List, [], ◌∷◌, ◌++◌, length, refl, sym, ap, ap₂, ◌∙◌, subst, subst₂, arith, length-append, append-nil, append_assoc}
+use Rattle.std.proofs.Common.{◌≡◌, ℕ, suc, ◌+◌, List, [], ◌∷◌, ◌++◌, length, refl, sym, ap, ap₂, ◌∙◌, subst, arith, length-append, append-nil, append_assoc}
 use Rattle.srmt_base.specs.declared.limits.Limits.{Limits}
-use Rattle.srmt_base.specs.declared.side.Side.{Side}
-use Rattle.srmt_base.specs.declared.side.Side.TheVariants.{Lead, Trail}
+use Rattle.srmt_base.specs.declared.side.Side.TheVariants.{Trail}
 use Rattle.srmt_base.specs.declared.trap.SourceEnd.{SourceEnd}
 use Rattle.mid_code.specs.declared.program.MidProgram.{MidProgram}
 use Rattle.mid_code.specs.Machine.{Machine}
 use Rattle.mid_code.specs.Valid.{IsValid}
 use Rattle.word_stream.specs.declared.request.Request.{Request}
 use Rattle.word_stream.specs.declared.request.Response.{Response}
-use Rattle.word_stream.specs.Exchange.{response_words, checks_of, acks_of}
-use Rattle.world.specs.World.{WorldState, Asked, ask}
+use Rattle.word_stream.specs.Exchange.{response_words, checks_of}
+use Rattle.world.specs.World.{ask}
 use Rattle.world.specs.Requests.{Wants, Runs, Dies, Requests, Lost, wants, Resumed, Back, Over, resume}
-use Rattle.world.specs.Ideal.{Place, Here, Owed, Ended as PlaceEnded, IdealState, place_by, words_owed, owed_next, ideal}
+use Rattle.world.specs.Ideal.{Here, Owed, Ended as PlaceEnded, IdealState, place_by, words_owed, owed_next, ideal}
 use Rattle.machine.specs.declared.thread_end.ThreadEnd.TheVariants.{PeerEnded}
 use Rattle.machine.specs.Side.{SideState, Meet, Plain, Got, Closed, Failed, Outcome, Went, Ended, StepGives}
-use Rattle.machine.specs.Steps.{side_op, takes_at}
 use Rattle.machine.specs.Trailing.{trail_next}
 use Rattle.machine.specs.Meets.{next_of, CanMeet}
 use Rattle.pair_core.specs.History.{Past, word_met, grown}
 use Rattle.pair_core.specs.Fit.{IsPrefix}
 use Rattle.pair_core.specs.Laws.{end_as}
-use Rattle.pair_core.proofs.Prefixes.{prefix_trans, prefix_more, next_of_two}
+use Rattle.pair_core.proofs.Prefixes.{prefix_trans, next_of_two}
 use Rattle.pair_core.proofs.Groups.{Stands, next_line, trail_side, never_dies, never_lost}
-use Rattle.pair_core.proofs.Steps.{gave, trail_goes, trail_runs_takes}
+use Rattle.pair_core.proofs.Steps.{trail_goes, trail_runs_takes}
 use Rattle.pair_core.proofs.Exchanges.{checks_some, none_answered, trail_checks, trail_checks_takes, trail_closed, trail_acks_back, trail_acks_over, trail_acks_takes, trail_ends, trail_ends_takes}
-use Rattle.pair_core.proofs.Ideals.{asked_state, answered_state, next_runs, next_asks, next_twice, next_owed, grows, stands_owed, stands_point}
+use Rattle.pair_core.proofs.Ideals.{answered_state, next_runs, next_asks, next_twice, next_owed, grows, stands_owed, stands_point}
 
 -- what a history shows to the other side
 pub record Tells (past : Past) (at : Outcome) (took sent : List ℕ) : Type 0 where
@@ -110,15 +108,19 @@ module _ (program : MidProgram) (input : List ℕ) (limits : Limits) (valid : Is
     checked m q done x [] here h checks tells =
         let stands = stands_point program input limits valid i m here in
         let took : (c.words ++ done) ++ x ∷ [] ≡ c.words ++ checks_of q = append_assoc c.words done (x ∷ []) ∙ ap (λ t. c.words ++ t) (sym checks) in
-        let place : suc (length done) ≡ length (checks_of q) = omega (arith, ap length checks, length-append done (x ∷ [])) in
-        (i, TrailAcks m q here h
-          (tells_on program past _ s (Got x) _ _ _ _ _ _ tells at (trail_checks program m stands q h past.world done x [] checks) (ap (λ k. Went (trail_side program m k)) place) took (append-nil _)))
+        let place : suc (length done) ≡ length (checks_of q) = omega (arith, ap length checks, length-append done (x ∷ [])) in (
+          i,
+          TrailAcks m q here h
+              (tells_on program past _ s (Got x) _ _ _ _ _ _ tells at (trail_checks program m stands q h past.world done x [] checks) (ap (λ k. Went (trail_side program m k)) place) took (append-nil _)),
+        )
     checked m q done x (y ∷ rest) here h checks tells =
         let stands = stands_point program input limits valid i m here in
         let more : checks_of q ≡ (done ++ x ∷ []) ++ y ∷ rest = checks ∙ sym (append_assoc done (x ∷ []) (y ∷ rest)) in
-        let place : suc (length done) ≡ length (done ++ x ∷ []) = omega (arith, length-append done (x ∷ [])) in
-        (i, TrailChecks m q (done ++ x ∷ []) y rest here h more
-          (tells_on program past _ s (Got x) _ _ _ _ _ _ tells at (trail_checks program m stands q h past.world done x (y ∷ rest) checks) (ap (λ k. Went (trail_side program m k)) place) (append_assoc c.words done (x ∷ [])) (append-nil _)))
+        let place : suc (length done) ≡ length (done ++ x ∷ []) = omega (arith, length-append done (x ∷ [])) in (
+          i,
+          TrailChecks m q (done ++ x ∷ []) y rest here h more
+              (tells_on program past _ s (Got x) _ _ _ _ _ _ tells at (trail_checks program m stands q h past.world done x (y ∷ rest) checks) (ap (λ k. Went (trail_side program m k)) place) (append_assoc c.words done (x ∷ [])) (append-nil _)),
+        )
 
     from_check : (m : Machine) (q : Request) (done : List ℕ) (x : ℕ) (rest : List ℕ) → c.place ≡ Here m → wants program m ≡ Requests q → checks_of q ≡ done ++ x ∷ rest →
         Tells past (Went (trail_side program m (length done))) (c.words ++ done) c.echoes →
@@ -130,22 +132,26 @@ module _ (program : MidProgram) (input : List ℕ) (limits : Limits) (valid : Is
         let stands = stands_point program input limits valid i m here in
         let no = trail_checks_takes program m stands q h done x rest checks in let yes = can.0 in absurd (cc)
     from_check m q done x rest here h checks tells Closed can right =
-        let stands = stands_point program input limits valid i m here in
-        (i, TrailGone m q done x rest here h checks
-          (tells_on program past _ s Closed _ _ _ _ _ _ tells at (trail_closed program m stands q h past.world done x rest checks) refl (append-nil _) (append-nil _)) right)
+        let stands = stands_point program input limits valid i m here in (
+          i,
+          TrailGone m q done x rest here h checks
+              (tells_on program past _ s Closed _ _ _ _ _ _ tells at (trail_closed program m stands q h past.world done x rest checks) refl (append-nil _) (append-nil _)) right,
+        )
     from_check m q done x rest here h checks tells (Got word) can right =
         let stands = stands_point program input limits valid i m here in
         let all : (ideal program input limits (suc i)).words ≡ (c.words ++ done) ++ x ∷ rest =
-            ap (λ d. d.words) (next_asks program c m q here stands h) ∙ ap (λ t. c.words ++ t) checks ∙ sym (append_assoc c.words done (x ∷ rest)) in
+        ap (λ d. d.words) (next_asks program c m q here stands h) ∙ ap (λ t. c.words ++ t) checks ∙ sym (append_assoc c.words done (x ∷ rest)) in
         let same : word ≡ x = next_word (suc i) right.0 (c.words ++ done) rest word x (subst (λ t. IsPrefix (t ++ word ∷ []) (ideal program input limits right.0).words) tells.took_so right.1) all in
         subst (λ y. TrailGoes (after (Got y))) (sym same) (checked m q done x rest here h checks tells)
 
     from_start : (m : Machine) → c.place ≡ Here m → Tells past (Went (trail_side program m 0)) c.words c.echoes →
         (x : Wants) → wants program m ≡ x → (meet : Meet) → CanMeet Trail program (trail_side program m 0) past.world meet → TrailMeets past meet → TrailGoes (after meet)
     from_start m here tells (Runs next) h Plain can right =
-        let stands = stands_point program input limits valid i m here in
-        (suc i, subst (λ d. TrailAt program d quit (after Plain)) (sym (next_runs program c m next here h)) (TrailStarts next refl
-          (tells_on program past _ s Plain _ _ _ _ _ _ tells at (trail_goes program m stands (next_line program m stands) next past.world h) refl (append-nil _) (append-nil _))))
+        let stands = stands_point program input limits valid i m here in (
+          suc i,
+          subst (λ d. TrailAt program d quit (after Plain)) (sym (next_runs program c m next here h)) (TrailStarts next refl
+              (tells_on program past _ s Plain _ _ _ _ _ _ tells at (trail_goes program m stands (next_line program m stands) next past.world h) refl (append-nil _) (append-nil _))),
+        )
     from_start m here tells (Runs next) h (Got word) can right =
         let stands = stands_point program input limits valid i m here in
         let no = trail_runs_takes program m stands (next_line program m stands) next h in absurd (cc)
@@ -163,7 +169,7 @@ module _ (program : MidProgram) (input : List ℕ) (limits : Limits) (valid : Is
         let stands = stands_point program input limits valid i m here in
         let some = checks_some program m stands q h in
         from_check m q [] some.0 some.1 here h some.2
-          (record { at_so = tells.at_so; took_so = tells.took_so ∙ sym (append-nil c.words); sent_so = tells.sent_so }) meet can right
+        (record { at_so = tells.at_so; took_so = tells.took_so ∙ sym (append-nil c.words); sent_so = tells.sent_so }) meet can right
 
     acked : (m : Machine) (q : Request) → c.place ≡ Here m → wants program m ≡ Requests q → Tells past (Went (trail_side program m (length (checks_of q)))) (c.words ++ checks_of q) c.echoes →
         (x : Resumed) → resume program m (ask c.world q).response ≡ x → TrailGoes (after Plain)
@@ -171,14 +177,18 @@ module _ (program : MidProgram) (input : List ℕ) (limits : Limits) (valid : Is
         let stands = stands_point program input limits valid i m here in
         let r = (ask c.world q).response in
         let words : (c.words ++ checks_of q) ++ [] ≡ (c.words ++ checks_of q) ++ response_words q r = ap (λ t. (c.words ++ checks_of q) ++ t) (sym (none_answered program m stands q h r)) in
-        let place : (answered_state program m q c).place ≡ Here next = ap place_by back in
-        (suc (suc i), subst (λ d. TrailAt program d quit (after Plain)) (sym (next_twice program c m q here stands h)) (TrailStarts next place
-          (tells_on program past _ s Plain _ _ _ _ _ _ tells at (trail_acks_back program m stands q h past.world r next back) refl words refl)))
+        let place : (answered_state program m q c).place ≡ Here next = ap place_by back in (
+          suc (suc i),
+          subst (λ d. TrailAt program d quit (after Plain)) (sym (next_twice program c m q here stands h)) (TrailStarts next place
+              (tells_on program past _ s Plain _ _ _ _ _ _ tells at (trail_acks_back program m stands q h past.world r next back) refl words refl)),
+        )
     acked m q here h tells (Over end) over =
         let stands = stands_point program input limits valid i m here in
-        let r = (ask c.world q).response in
-        (suc i, subst (λ d. TrailAt program d quit (after Plain)) (sym (next_asks program c m q here stands h)) (TrailEnding m q r end refl h over
-          (tells_on program past _ s Plain _ _ _ _ _ _ tells at (trail_acks_over program m stands q h past.world r end over) refl (append-nil _) refl)))
+        let r = (ask c.world q).response in (
+          suc i,
+          subst (λ d. TrailAt program d quit (after Plain)) (sym (next_asks program c m q here stands h)) (TrailEnding m q r end refl h over
+              (tells_on program past _ s Plain _ _ _ _ _ _ tells at (trail_acks_over program m stands q h past.world r end over) refl (append-nil _) refl)),
+        )
 
     from_acks : (m : Machine) (q : Request) → c.place ≡ Here m → wants program m ≡ Requests q → Tells past (Went (trail_side program m (length (checks_of q)))) (c.words ++ checks_of q) c.echoes →
         (meet : Meet) → CanMeet Trail program (trail_side program m (length (checks_of q))) past.world meet → TrailGoes (after meet)
@@ -204,9 +214,11 @@ module _ (program : MidProgram) (input : List ℕ) (limits : Limits) (valid : Is
     from_ending m q r end owed h over tells Plain can =
         let stands = stands_owed program input limits valid i m r owed in
         let place : (owed_next program m r c).place ≡ PlaceEnded end = ap place_by over in
-        let words : c.words ++ [] ≡ c.words ++ words_owed (wants program m) r = ap (λ t. c.words ++ t) (sym (ap (λ x. words_owed x r) h ∙ none_answered program m stands q h r)) in
-        (suc i, subst (λ d. TrailAt program d quit (after Plain)) (sym (next_owed program c m r owed)) (TrailEnded end place
-          (tells_on program past _ s Plain _ _ _ _ _ _ tells at (trail_ends program m stands q h past.world r end over) refl words (append-nil _))))
+        let words : c.words ++ [] ≡ c.words ++ words_owed (wants program m) r = ap (λ t. c.words ++ t) (sym (ap (λ x. words_owed x r) h ∙ none_answered program m stands q h r)) in (
+          suc i,
+          subst (λ d. TrailAt program d quit (after Plain)) (sym (next_owed program c m r owed)) (TrailEnded end place
+              (tells_on program past _ s Plain _ _ _ _ _ _ tells at (trail_ends program m stands q h past.world r end over) refl words (append-nil _))),
+        )
     from_ending m q r end owed h over tells (Got word) can =
         let no = trail_ends_takes program m (stands_owed program input limits valid i m r owed) q h r end over in absurd (cc)
     from_ending m q r end owed h over tells Closed can =

@@ -1,5 +1,5 @@
 -- What holds after every schedule.
-use Rattle.std.specs.Prelude.{◌≡◌, ℕ, ◌⊎◌, ◌≢◌, List, ◌++◌, length, None}
+use Rattle.std.specs.Prelude.{◌≡◌, ℕ, ◌⊎◌, ◌≢◌, List, [], ◌∷◌, ◌++◌, length, None}
 use Rattle.srmt_base.specs.declared.event.Event.{Event}
 use Rattle.srmt_base.specs.declared.limits.Limits.{Limits}
 use Rattle.srmt_base.specs.declared.side.Side.{Side}
@@ -13,7 +13,7 @@ use Rattle.machine.specs.declared.thread_end.ThreadEnd.TheVariants.{Exit, Trap, 
 use Rattle.machine.specs.declared.thread_end.Stepped.TheVariants.{NotYet}
 use Rattle.machine.specs.Side.{Outcome, Went, Ended}
 use Rattle.pair_core.specs.Fit.{IsPrefix, IsOver, Fit}
-use Rattle.pair_core.specs.Duo.{DuoState, view_of, turn_of}
+use Rattle.pair_core.specs.Duo.{DuoState, view_of, turn_of, Entry}
 
 -- the end of a side that ends as the source does
 abbrev pub end_as : SourceEnd → ThreadEnd
@@ -72,3 +72,8 @@ pub record Sound (program : MidProgram) (input : List ℕ) (limits : Limits) (du
       (lead_end ≡ WriteFault) ⊎ AsIdeal program input limits lead_end trail_end fit.lead.sent events
   -- the core never stands still
   pub goes : CanGo program Lead duo ⊎ CanGo program Trail duo ⊎ (IsOver duo.lead × IsOver duo.trail)
+
+-- the outlet fails in no event of the schedule
+abbrev pub NoneFails : List Entry → Type 0
+NoneFails [] = Unit {0}
+NoneFails (entry ∷ entries) = (entry.fails ≡ None) × NoneFails entries

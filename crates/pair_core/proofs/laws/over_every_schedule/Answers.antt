@@ -1,4 +1,5 @@
 use Rattle.pair_core.proofs.Sounds.{sound_scheduled, first_words, first_events}
+use Rattle.pair_core.proofs.Faults.{no_fault_scheduled}
 use Rattle.pair_core.proofs.laws.over_every_schedule.Goals as goal
 
 pub returns-clause-sound : goal.returns-clause-sound
@@ -9,3 +10,6 @@ returns-clause-all_words c = λ program input limits words whole events end site
 
 pub returns-clause-all_events : goal.returns-clause-all_events
 returns-clause-all_events c = λ program input limits events whole words end sites first all. first_events program input limits sites events whole words end first all
+
+pub returns-clause-no_fault : goal.returns-clause-no_fault
+returns-clause-no_fault c = λ program input limits entries none. no_fault_scheduled program input limits entries none
