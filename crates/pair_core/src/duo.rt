@@ -7,7 +7,7 @@ ghost use Rattle.machine.specs.OneStep.{last_of, sent_of};
 ghost use Rattle.machine.specs.Side.{Ended};
 ghost use Rattle.machine.specs.declared.thread_end.ThreadEnd.TheVariants.{WriteFault};
 ghost use Rattle.pair_core.specs.Duo.{opening_duo, put_on};
-ghost use Rattle.pair_core.specs.Turns.{end_of_step, left_by, CountsOn, DuoFits, IsCountable, Turns};
+ghost use Rattle.pair_core.specs.Turns.{end_of_step, has_waited, left_by, CountsOn, DuoFits, IsCountable, Turns};
 
 use crate::judging::verdict_of;
 use crate::verdict::Ran;
@@ -54,6 +54,13 @@ fn end_of(stepped: &Stepped) -> Option<ThreadEnd>
         Stepped::Ended(end) => Some(*end),
         Stepped::Went | Stepped::NotYet => None,
     }
+}
+
+// Whether a step waits.
+fn waits(stepped: &Stepped) -> bool
+    ensures { result ≡ has_waited stepped.now }
+{
+    matches!(stepped, Stepped::NotYet)
 }
 
 // Takes from one way what a step has taken, and puts on the other what it has sent. Gives how many
@@ -119,7 +126,7 @@ impl Duo {
         let over = self.trail_over.is_some();
         let mut link = OneStep::new(self.acks.offer(over), self.words.spare(over), false);
         let stepped = lead_step(pair, &mut self.lead, &mut self.world, outlet, &mut link);
-        if matches!(&stepped, Stepped::NotYet) {
+        if waits(&stepped) {
             return Stepped::NotYet;
         }
         let sent = carry(&link, over, &mut self.acks, &mut self.words);
@@ -144,7 +151,7 @@ impl Duo {
         let over = self.lead_over.is_some();
         let mut link = OneStep::new(self.words.offer(over), self.acks.spare(over), false);
         let stepped = trail_step(pair, &mut self.trail, &mut link);
-        if matches!(&stepped, Stepped::NotYet) {
+        if waits(&stepped) {
             return Stepped::NotYet;
         }
         let sent = carry(&link, over, &mut self.words, &mut self.acks);
