@@ -6,3 +6,4 @@ pub mod Laws
 pub mod Answer
 pub mod Turns
 pub mod View
+pub mod InTurn

@@ -45,6 +45,11 @@ end_of_step Made = None
 end_of_step NotYet = None
 end_of_step (MadeLast end) = Some end
 
+abbrev pub has_waited : Stepped → Bool
+has_waited Made = false
+has_waited NotYet = true
+has_waited (MadeLast end) = false
+
 -- one event of a side leads from the one state to the other
 abbrev pub Turns : MidProgram → Side → Option ℕ → DuoState → DuoState → Stepped → List Event → Type 0
 Turns program side fails before after stepped events = turn_of program side fails before ≡ record { state = after; events = events; stepped = stepped }

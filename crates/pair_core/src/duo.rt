@@ -7,8 +7,10 @@ ghost use Rattle.machine.specs.OneStep.{last_of, sent_of};
 ghost use Rattle.machine.specs.Side.{Ended};
 ghost use Rattle.machine.specs.declared.thread_end.ThreadEnd.TheVariants.{WriteFault};
 ghost use Rattle.pair_core.specs.Duo.{opening_duo, put_on};
-ghost use Rattle.pair_core.specs.Turns.{end_of_step, left_by, CountsOn, DuoFits, IsCountable, Turns};
+ghost use Rattle.pair_core.specs.Turns.{end_of_step, has_waited, left_by, CountsOn, DuoFits, IsCountable, Turns};
 
+use crate::judging::verdict_of;
+use crate::verdict::Ran;
 use crate::way::Way;
 use machine::{LastCall, Machine, OneStep, Stepped, Taken, ThreadEnd, lead_step, trail_step};
 use mid_code::Pair;
@@ -52,6 +54,13 @@ fn end_of(stepped: &Stepped) -> Option<ThreadEnd>
         Stepped::Ended(end) => Some(*end),
         Stepped::Went | Stepped::NotYet => None,
     }
+}
+
+// Whether a step waits.
+fn waits(stepped: &Stepped) -> bool
+    ensures { result ≡ has_waited stepped.now }
+{
+    matches!(stepped, Stepped::NotYet)
 }
 
 // Takes from one way what a step has taken, and puts on the other what it has sent. Gives how many
@@ -117,7 +126,7 @@ impl Duo {
         let over = self.trail_over.is_some();
         let mut link = OneStep::new(self.acks.offer(over), self.words.spare(over), false);
         let stepped = lead_step(pair, &mut self.lead, &mut self.world, outlet, &mut link);
-        if matches!(&stepped, Stepped::NotYet) {
+        if waits(&stepped) {
             return Stepped::NotYet;
         }
         let sent = carry(&link, over, &mut self.acks, &mut self.words);
@@ -142,7 +151,7 @@ impl Duo {
         let over = self.lead_over.is_some();
         let mut link = OneStep::new(self.words.offer(over), self.acks.spare(over), false);
         let stepped = trail_step(pair, &mut self.trail, &mut link);
-        if matches!(&stepped, Stepped::NotYet) {
+        if waits(&stepped) {
             return Stepped::NotYet;
         }
         let sent = carry(&link, over, &mut self.words, &mut self.acks);
@@ -175,5 +184,30 @@ impl Duo {
                 stepped
             }
         }
+    }
+}
+
+impl Duo {
+    ghost use Rattle.std.specs.Prelude.{MatchOption};
+    ghost use Rattle.pair_core.specs.InTurn.{BothOver, IsRan};
+
+    /// The answer of the run, where both sides have ended.
+    pub fn ran(&self) -> Option<Ran>
+        ensures { MatchOption result (BothOver self.now → ⊥) (IsRan self.now) }
+    {
+        let Some(lead) = &self.lead_over else {
+            return None;
+        };
+        let Some(trail) = &self.trail_over else {
+            return None;
+        };
+        Some(Ran {
+            verdict: verdict_of(*lead, *trail),
+            lead_steps: self.lead_steps,
+            trail_steps: self.trail_steps,
+            words: self.words_sent,
+            acks: self.acks_sent,
+            applied: false,
+        })
     }
 }

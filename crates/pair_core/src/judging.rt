@@ -33,10 +33,7 @@ pub fn verdict_of(lead: ThreadEnd, trail: ThreadEnd) -> Verdict
             Verdict::Exit(*status)
         }
         (ThreadEnd::Trap(trap, line), ThreadEnd::Trap(other, at))
-            if trap.code() == other.code() && *line == *at =>
-        {
-            stopped(*trap, *line)
-        }
+            if trap.code() == other.code() && *line == *at => { stopped(*trap, *line) }
         _ => Verdict::Reported(Report::Parted(*first, *second)),
     }
 }

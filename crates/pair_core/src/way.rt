@@ -48,12 +48,11 @@ impl<const ROOM: usize> Way<ROOM> {
 
     /// For how many words, up to 18, there are places, by whether the side that takes has ended.
     pub fn spare(&self, over: bool) -> u8
-        ensures { result ≡ room_left over ROOM self.now }
+        ensures left { result ≡ room_left over ROOM self.now }
+        ensures fits { length self.now ≤ ROOM }
     {
-        if over {
-            return 18;
-        }
-        (ROOM - self.words.len()).min(18) as u8
+        let left = (ROOM - self.words.len()).min(18) as u8;
+        if over { 18 } else { left }
     }
 
     /// Lets the first word go.
