@@ -12,4 +12,4 @@ mod reach;
 mod run;
 mod statics;
 
-pub use run::{MidRun, act};
+pub use run::MidRun;
