@@ -1,8 +1,9 @@
 -- A side that fits stands at an instruction that fits, and fits after it.
-use Rattle.std.proofs.Common.{◌≡◌, ℕ, ◌+◌, ◌<◌, ◌≤◌, ◌^◌, List, [], ◌∷◌, length, Option, Some, None, refl, sym, ap, ◌∙◌, subst, arith}
-use Rattle.std.specs.Prelude.{All, slice_get, slice_set}
-use Rattle.std.proofs.lemmas.List.{length-set, length-replicate}
-use Rattle.std.proofs.lemmas.List.Elements.{All-set, All-replicate}
+use Rattle.std.proofs.Common.{◌≡◌, ℕ, ◌+◌, ◌-◌, ◌<◌, ◌≤◌, ◌^◌, List, [], ◌∷◌, length, Option, Some, None, refl, sym, ap, ◌∙◌, subst, arith}
+use Rattle.std.specs.Prelude.{All, replicate, slice_get, slice_set}
+use Rattle.std.proofs.lemmas.List.{length-set}
+use Rattle.std.proofs.lemmas.List.Elements.{All-nil, All-set}
+use Rattle.srmt_base.specs.declared.limits.Limits.{Limits}
 use Rattle.srmt_base.specs.declared.side.Side.{Side}
 use Rattle.srmt_base.specs.declared.side.Side.TheVariants.{Lead, Trail}
 use Rattle.srmt_base.specs.Convert.{convert_of}
@@ -16,16 +17,18 @@ use Rattle.mid_code.specs.declared.version.VersionOp.{VersionOp}
 use Rattle.mid_code.specs.declared.version.VersionOp.TheVariants.{Copied, Ask, Await, Act, Check, Ack, End}
 use Rattle.mid_code.specs.declared.version.VersionLine.{VersionLine}
 use Rattle.mid_code.specs.Program.{function_at}
-use Rattle.mid_code.specs.Valid.{AreFit, IsValid}
 use Rattle.mid_code.specs.Classes.{site_at, protected_functions}
+use Rattle.mid_code.specs.Pairs.{HasSites}
 use Rattle.mid_code.specs.Versions.{version_at}
-use Rattle.mid_code.specs.Machine.{Machine, Goes, act, given, register}
-use Rattle.mid_code.specs.Meaning.{started, register_count}
-use Rattle.mid_code.proofs.Fitting.{valid_function, one_within}
+use Rattle.mid_code.specs.Machine.{Machine, Goes, act, given, register, spent}
+use Rattle.mid_code.specs.Fits.{IsValue}
+use Rattle.mid_code.specs.Start.{full_budget, main_activation}
+use Rattle.mid_code.proofs.Values.{one_within, first_registers}
 use Rattle.mid_code.proofs.Fetching.{fetch, group_of}
 use Rattle.machine.specs.Side.{SideState, opening}
 use Rattle.machine.specs.Steps.{versions_of, side_op, passed_on}
 use Rattle.machine.specs.Fits.{HeardFits, SideFits}
+use Rattle.machine.proofs.FirstForm.{AreFit, is_main, first_function_at}
 use Rattle.machine.proofs.Groups.{IsLast, OpFits, ops_of, group_fits}
 use Rattle.machine.proofs.Placed.{Placed, placed, length-with_line, versions_so}
 
@@ -52,10 +55,10 @@ pub record GoesOn (m next : Machine) : Type 0 where
   pub count : length next.top.registers ≡ length m.top.registers
   pub each : All (λ v. v < 2 ^ 44) next.top.registers
 
-module _ (side : Side) (program : MidProgram) (s : SideState) (valid : IsValid program) (fits : SideFits side program s) where
+module _ (side : Side) (program : MidProgram) (s : SideState) (sites : HasSites program) (fits : SideFits side program s) where
   -- its instruction is one of the version
   pub here : Placed side program s.machine.top.function s.machine.top.place fits.line
-  here = placed side program s.machine.top.function s.machine.top.place fits.line valid fits.at
+  here = placed side program s.machine.top.function s.machine.top.place fits.line sites fits.at
 
   same_code : here.code ≡ fits.function
   same_code = let e : Some here.code ≡ Some fits.function = sym here.found ∙ fits.found in cc
@@ -66,7 +69,7 @@ module _ (side : Side) (program : MidProgram) (s : SideState) (valid : IsValid p
   pub fits_next : (next : Machine) → GoesOn s.machine next → (IsLast fits.line.op → ⊥) → SideFits side program (record { machine = next; heard = [] })
   fits_next next goes not_last =
       let n = here.next not_last in
-      let after = placed side program s.machine.top.function (s.machine.top.place + 1) n.0 valid n.1 in
+      let after = placed side program s.machine.top.function (s.machine.top.place + 1) n.0 sites n.1 in
       let at : version_at (versions_of side program) next.top.function next.top.place ≡ Some n.0 =
       ap (λ f. version_at (versions_of side program) f next.top.place) goes.function ∙ ap (version_at (versions_of side program) s.machine.top.function) goes.place ∙ n.1 in
       record {
@@ -83,22 +86,56 @@ module _ (side : Side) (program : MidProgram) (s : SideState) (valid : IsValid p
   fits_passed not_last = fits_next (passed_on s).machine (record { function = refl; place = refl; count = refl; each = fits.each }) not_last
 
 -- an instruction that goes on, one case for each
-pub goes_on : (kinds : List RegisterKind) (mid : Mid) (line : ℕ) (m next : Machine) → AreFit kinds mid → All (λ v. v < 2 ^ 44) m.top.registers → act mid line m ≡ Goes next → GoesOn m next
-goes_on kinds (Const target value) line m next fit each h =
+pub goes_on : (program : MidProgram) (kinds : List RegisterKind) (mid : Mid) (line : ℕ) (m next : Machine) → AreFit kinds mid → All (λ v. v < 2 ^ 44) m.top.registers → act program mid line m ≡ Goes next → GoesOn m next
+goes_on program kinds (Const target value) line m next fit each h =
     let e : given target value m ≡ next = cc in
     subst (GoesOn m) e (record { function = refl; place = refl; count = length-set m.top.registers target value; each = All-set (λ v. v < 2 ^ 44) m.top.registers target value fit.1 each })
-goes_on kinds (Conv from to target source) line m next fit each h =
+goes_on program kinds (Conv from to target source) line m next fit each h =
     let value = convert_of from to (register m source) in
     let e : given target value m ≡ next = cc in
     subst (GoesOn m) e (record { function = refl; place = refl; count = length-set m.top.registers target value; each = All-set (λ v. v < 2 ^ 44) m.top.registers target value (let small : convert_of from to (register m source) < 2 ^ 44 = omega (arith, convert_of-lt from to (register m source)) in small) each })
-goes_on kinds (Put source) line m next fit each h = absurd (cc)
-goes_on kinds (Exit source) line m next fit each h = absurd (cc)
+goes_on program kinds (Put source) line m next fit each h = absurd (cc)
+goes_on program kinds (Exit source) line m next fit each h = absurd (cc)
+goes_on program kinds _ line m next fit each h = absurd fit
 
--- `main` of a valid program has a first instruction in both versions
-pub fits_opening : (side : Side) (program : MidProgram) → IsValid program → SideFits side program (opening program)
-fits_opening side program valid =
-    let main = valid.main in
-    let good = valid_function program program.main main.function valid main.found in
+-- how many registers a function has
+abbrev pub register_count : Option MidFunction → ℕ
+register_count None = 0
+register_count (Some f) = length f.kinds
+
+-- a side that stands where `main` begins, with these registers
+abbrev pub standing : ℕ → List ℕ → List ℕ → Limits → SideState
+standing function registers heard limits = record {
+  machine = record {
+    top = record { function = function; place = 0; registers = registers; opened = []; into = 0 };
+    below = [];
+    protected = spent (full_budget limits);
+    binary = full_budget limits;
+  };
+  heard = heard;
+}
+
+-- a side at the start, by the code of `main`
+abbrev with_main : MidProgram → Limits → Option MidFunction → SideState
+with_main program limits f = record {
+  machine = record { top = main_activation program f; below = []; protected = spent (full_budget limits); binary = full_budget limits };
+  heard = [];
+}
+
+opening_by : (program : MidProgram) (limits : Limits) (f : Option MidFunction) → standing program.main (replicate (register_count f) 0) [] limits ≡ with_main program limits f
+opening_by program limits None = refl
+opening_by program limits (Some f) =
+    let e : length f.kinds ≡ length f.kinds - 0 = omega arith in
+    ap (λ n. standing program.main (replicate n 0) [] limits) e
+
+pub opening_is : (program : MidProgram) (limits : Limits) → standing program.main (replicate (register_count (function_at program program.main)) 0) [] limits ≡ opening program limits
+opening_is program limits = opening_by program limits (function_at program program.main)
+
+-- `main` of a pair's program has a first instruction in both versions
+pub fits_opening : (side : Side) (program : MidProgram) (limits : Limits) → HasSites program → SideFits side program (opening program limits)
+fits_opening side program limits sites =
+    let main = is_main program sites.valid in
+    let good = first_function_at program program.main main.function sites main.found main.of_main_file in
     let first = one_within main.function.code 0 (omega (arith, good.long)) in
     let site = site_at program program.main 0 (Some main.function) in
     let group = group_of (ops_of side) site first.0 in
@@ -106,14 +143,15 @@ fits_opening side program valid =
     let l = one_within group 0 some in
     let at : version_at (versions_of side program) program.main 0 ≡ Some l.0 =
     ap (λ vs. version_at vs program.main 0) (versions_so side program) ∙ fetch (ops_of side) program program.main main.function 0 first.0 0 main.found main.of_main_file first.1 some ∙ l.1 in
-    let stands = placed side program program.main 0 l.0 valid at in
-    let count : register_count (function_at program program.main) ≡ length main.function.kinds = ap register_count main.found in
-    record {
+    let stands = placed side program program.main 0 l.0 sites at in
+    let registers = first_registers [] (length main.function.kinds) (omega arith) (All-nil IsValue) in
+    let fits : SideFits side program (with_main program limits (Some main.function)) = record {
       function = main.function;
       line = l.0;
       found = main.found;
       at = at;
-      registers = length-replicate (register_count (function_at program program.main)) 0 ∙ count;
-      each = All-replicate (λ v. v < 2 ^ 44) (register_count (function_at program program.main)) 0 (omega arith);
+      registers = registers.0;
+      each = registers.1;
       heard = heard_none side stands.code.kinds l.0.op stands.fits;
-    }
+    } in
+    subst (λ f. SideFits side program (with_main program limits f)) (sym main.found) fits

@@ -2,24 +2,19 @@
 use Rattle.std.proofs.Common.{lit≤, ◌≡◌, ℕ, zero, suc, ◌+◌, ◌-◌, ◌<◌, ◌≤◌, ◌^◌, List, [], ◌∷◌, length, Option, Some, None, refl, sym, ap, ◌∙◌, subst, arith}
 use Rattle.std.specs.Prelude.{All, slice_get}
 use Rattle.std.proofs.lemmas.List.Elements.{All-cons, All-nil}
-use Rattle.std.proofs.lemmas.Option.{slice_get_within}
 use Rattle.srmt_base.specs.declared.side.Side.{Side}
 use Rattle.srmt_base.specs.declared.side.Side.TheVariants.{Lead, Trail}
-use Rattle.mid_code.specs.declared.access.Access.{Access}
 use Rattle.mid_code.specs.declared.mid.Mid.{Mid}
 use Rattle.mid_code.specs.declared.mid.Mid.TheVariants.{Const, Conv, Put, Exit}
 use Rattle.mid_code.specs.declared.program.RegisterKind.{RegisterKind}
-use Rattle.mid_code.specs.declared.program.RegisterKind.TheVariants.{Number}
 use Rattle.mid_code.specs.declared.version.Asks.{Asks}
 use Rattle.mid_code.specs.declared.version.Asks.TheVariants.{Put as AskPut, Exit as AskExit}
 use Rattle.mid_code.specs.declared.version.VersionOp.{VersionOp}
 use Rattle.mid_code.specs.declared.version.VersionOp.TheVariants.{Copied, Ask, Await, Act, Check, Ack, End}
 use Rattle.mid_code.specs.Classes.{site_of}
-use Rattle.mid_code.specs.Valid.{AreFit, IsFinal}
-use Rattle.mid_code.specs.Fits.{AreWithin}
-use Rattle.mid_code.specs.Machine.{Machine, Reaches, act}
 use Rattle.mid_code.specs.Versions.{leading_ops, trailing_ops}
-use Rattle.mid_code.proofs.Fitting.{within_fit}
+use Rattle.machine.specs.Steps.{IsPerformed}
+use Rattle.machine.proofs.FirstForm.{AreFit, IsFinal}
 
 -- the side ends with this instruction, unless it ends before
 abbrev pub acts_last : Asks → Type 0
@@ -35,10 +30,10 @@ IsLast (Check site source) = ⊥
 IsLast (Ack site args) = ⊥
 IsLast (End source) = Unit {0}
 
--- an instruction that both sides perform: its registers are there, and it reaches nothing
+-- an instruction that both sides perform: its registers are there, and its value is small
 pub record CopiedFits (kinds : List RegisterKind) (mid : Mid) : Type 0 where
   pub fit : AreFit kinds mid
-  pub alone : (line : ℕ) (m : Machine) (access : Access) → act mid line m ≡ Reaches access → ⊥
+  pub performed : IsPerformed (length kinds) mid
 
 -- the operands of an exchange: there are some, no more than a call has, and their registers are there
 pub record ArgsFit (kinds : List RegisterKind) (args : List ℕ) : Type 0 where
@@ -85,34 +80,35 @@ pub record GroupFits (side : Side) (kinds : List RegisterKind) (mid : Mid) (grou
   pub each : Each (OpFits side kinds) group
   pub last : IsFinal mid → (op : VersionOp) → slice_get group (length group - 1) ≡ Some op → IsLast op
 
-one_arg : (kinds : List RegisterKind) (source : ℕ) → slice_get kinds source ≡ Some Number → ArgsFit kinds (source ∷ [])
+one_arg : (kinds : List RegisterKind) (source : ℕ) → source < length kinds → ArgsFit kinds (source ∷ [])
 one_arg kinds source fit = record {
   some = lit≤ tt;
   few = lit≤ tt;
-  each = All-cons (λ a. a < length kinds) source [] (slice_get_within kinds source Number fit) (All-nil (λ a. a < length kinds));
+  each = All-cons (λ a. a < length kinds) source [] fit (All-nil (λ a. a < length kinds));
 }
 
-copied_group : (side : Side) (kinds : List RegisterKind) (mid : Mid) → AreFit kinds mid → (IsFinal mid → ⊥) → ((line : ℕ) (m : Machine) (access : Access) → act mid line m ≡ Reaches access → ⊥) → GroupFits side kinds mid (Copied mid ∷ [])
-copied_group side kinds mid fit not_final alone = record {
+copied_group : (side : Side) (kinds : List RegisterKind) (mid : Mid) → AreFit kinds mid → (IsFinal mid → ⊥) → IsPerformed (length kinds) mid → GroupFits side kinds mid (Copied mid ∷ [])
+copied_group side kinds mid fit not_final performed = record {
   some = lit≤ tt;
   few = lit≤ tt;
-  each = (record { fit = fit; alone = alone }, tt);
+  each = (record { fit = fit; performed = performed }, tt);
   last = λ final op at. absurd (not_final final);
 }
 
 pub group_fits : (side : Side) (kinds : List RegisterKind) (site : ℕ) (mid : Mid) → AreFit kinds mid → GroupFits side kinds mid (ops_of side site mid)
-group_fits Lead kinds site (Const target value) fit = copied_group Lead kinds (Const target value) fit (λ h. h) (λ line m access h. cc)
-group_fits Lead kinds site (Conv from to target source) fit = copied_group Lead kinds (Conv from to target source) fit (λ h. h) (λ line m access h. cc)
+group_fits Lead kinds site (Const target value) fit = copied_group Lead kinds (Const target value) fit (λ h. h) fit.0
+group_fits Lead kinds site (Conv from to target source) fit = copied_group Lead kinds (Conv from to target source) fit (λ h. h) fit
 group_fits Lead kinds site (Put source) fit =
     let args = one_arg kinds source fit in
     record { some = lit≤ tt; few = lit≤ tt; each = (args, (args, (args, tt))); last = λ final op at. absurd final }
 group_fits Lead kinds site (Exit source) fit =
     let args = one_arg kinds source fit in
     record { some = lit≤ tt; few = lit≤ tt; each = (args, (args, (args, tt))); last = λ final op at. let same : Act (site_of site) AskExit (source ∷ []) ≡ op = cc in subst IsLast same tt }
-group_fits Trail kinds site (Const target value) fit = copied_group Trail kinds (Const target value) fit (λ h. h) (λ line m access h. cc)
-group_fits Trail kinds site (Conv from to target source) fit = copied_group Trail kinds (Conv from to target source) fit (λ h. h) (λ line m access h. cc)
+group_fits Lead kinds site _ fit = absurd fit
+group_fits Trail kinds site (Const target value) fit = copied_group Trail kinds (Const target value) fit (λ h. h) fit.0
+group_fits Trail kinds site (Conv from to target source) fit = copied_group Trail kinds (Conv from to target source) fit (λ h. h) fit
 group_fits Trail kinds site (Put source) fit =
-    record { some = lit≤ tt; few = lit≤ tt; each = (slice_get_within kinds source Number fit, (one_arg kinds source fit, tt)); last = λ final op at. absurd final }
+    record { some = lit≤ tt; few = lit≤ tt; each = (fit, (one_arg kinds source fit, tt)); last = λ final op at. absurd final }
 group_fits Trail kinds site (Exit source) fit =
-    let within = slice_get_within kinds source Number fit in
-    record { some = lit≤ tt; few = lit≤ tt; each = (within, (one_arg kinds source fit, (within, tt))); last = λ final op at. let same : End source ≡ op = cc in subst IsLast same tt }
+    record { some = lit≤ tt; few = lit≤ tt; each = (fit, (one_arg kinds source fit, (fit, tt))); last = λ final op at. let same : End source ≡ op = cc in subst IsLast same tt }
+group_fits Trail kinds site _ fit = absurd fit

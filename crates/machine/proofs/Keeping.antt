@@ -14,7 +14,7 @@ use Rattle.mid_code.specs.declared.version.Asks.TheVariants.{Put as AskPut, Exit
 use Rattle.mid_code.specs.declared.version.VersionOp.{VersionOp}
 use Rattle.mid_code.specs.declared.version.VersionOp.TheVariants.{Copied, Ask, Await, Act, Check, Ack, End}
 use Rattle.mid_code.specs.declared.version.VersionLine.{VersionLine}
-use Rattle.mid_code.specs.Valid.{IsValid}
+use Rattle.mid_code.specs.Pairs.{HasSites}
 use Rattle.mid_code.specs.Machine.{Machine, Does, Goes, Traps, Reaches, Lost, act, register}
 use Rattle.word_stream.specs.declared.request.Response.{Response}
 use Rattle.word_stream.specs.Exchange.{ack_words}
@@ -52,13 +52,13 @@ passed_keeps : (Good : SideState → Type 0) (kinds : List RegisterKind) (op : V
 passed_keeps Good kinds op s s' keeps not_last e =
     subst Good e (keeps.next (passed_on s).machine (record { function = refl; place = refl; count = refl; each = keeps.each }) not_last)
 
-performed_keeps : (Good : SideState → Type 0) (kinds : List RegisterKind) (mid : Mid) (line : ℕ) (s s' : SideState) (d : Does) → OpFits Lead kinds (Copied mid) → Keeps Good kinds (Copied mid) s → act mid line s.machine ≡ d → performed d s ≡ Went s' → Good s'
-performed_keeps Good kinds mid line s s' (Goes m) fits keeps is h =
+performed_keeps : (program : MidProgram) (Good : SideState → Type 0) (kinds : List RegisterKind) (mid : Mid) (line : ℕ) (s s' : SideState) (d : Does) → OpFits Lead kinds (Copied mid) → Keeps Good kinds (Copied mid) s → act program mid line s.machine ≡ d → performed d s ≡ Went s' → Good s'
+performed_keeps program Good kinds mid line s s' (Goes m) fits keeps is h =
     let e : record { machine = m; heard = [] } ≡ s' = cc in
-    subst Good e (keeps.next m (goes_on kinds mid line s.machine m fits.fit keeps.each is) (λ none. none))
-performed_keeps Good kinds mid line s s' (Traps trap at) fits keeps is h = absurd (cc)
-performed_keeps Good kinds mid line s s' (Reaches access) fits keeps is h = let e : s ≡ s' = cc in subst Good e keeps.itself
-performed_keeps Good kinds mid line s s' Lost fits keeps is h = let e : s ≡ s' = cc in subst Good e keeps.itself
+    subst Good e (keeps.next m (goes_on program kinds mid line s.machine m fits.fit keeps.each is) (λ none. none))
+performed_keeps program Good kinds mid line s s' (Traps trap at) fits keeps is h = absurd (cc)
+performed_keeps program Good kinds mid line s s' (Reaches access at) fits keeps is h = let e : s ≡ s' = cc in subst Good e keeps.itself
+performed_keeps program Good kinds mid line s s' Lost fits keeps is h = let e : s ≡ s' = cc in subst Good e keeps.itself
 
 heard_keeps : (Good : SideState → Type 0) (kinds : List RegisterKind) (site : Site) (args : List ℕ) (words own : List ℕ) (s s' : SideState) (b : Bool) → Keeps Good kinds (Await site args) s → length own ≡ length args → nat_lt (length words) (length own) ≡ b → heard_by b words own s ≡ Went s' → Good s'
 heard_keeps Good kinds site args words own s s' true keeps count is h =
@@ -80,15 +80,15 @@ acts_keeps Good kinds site AskExit args values asked s s' w Plain keeps h = absu
 acts_keeps Good kinds site asks args values asked s s' w (Got word) keeps h = let e : s ≡ s' = cc in subst Good e keeps.itself
 acts_keeps Good kinds site asks args values asked s s' w Closed keeps h = let e : s ≡ s' = cc in subst Good e keeps.itself
 
-lead_keeps : (Good : SideState → Type 0) (kinds : List RegisterKind) (op : VersionOp) (line : ℕ) (s s' : SideState) (w : WorldState) (meet : Meet) → OpFits Lead kinds op → Keeps Good kinds op s → (lead_op op line s w meet).outcome ≡ Went s' → Good s'
-lead_keeps Good kinds (Copied mid) line s s' w meet fits keeps h = performed_keeps Good kinds mid line s s' (act mid line s.machine) fits keeps refl h
-lead_keeps Good kinds (Ask site args) line s s' w meet fits keeps h = let e : passed_on s ≡ s' = cc in passed_keeps Good kinds (Ask site args) s s' keeps (λ none. none) e
-lead_keeps Good kinds (Await site args) line s s' w meet fits keeps h =
+lead_keeps : (program : MidProgram) (Good : SideState → Type 0) (kinds : List RegisterKind) (op : VersionOp) (line : ℕ) (s s' : SideState) (w : WorldState) (meet : Meet) → OpFits Lead kinds op → Keeps Good kinds op s → (lead_op program op line s w meet).outcome ≡ Went s' → Good s'
+lead_keeps program Good kinds (Copied mid) line s s' w meet fits keeps h = performed_keeps program Good kinds mid line s s' (act program mid line s.machine) fits keeps refl h
+lead_keeps program Good kinds (Ask site args) line s s' w meet fits keeps h = let e : passed_on s ≡ s' = cc in passed_keeps Good kinds (Ask site args) s s' keeps (λ none. none) e
+lead_keeps program Good kinds (Await site args) line s s' w meet fits keeps h =
     awaits_keeps Good kinds site args (ack_words site.0 (operands s args)) s s' meet keeps (length-map (operands s args) _ ∙ length-map args (register s.machine)) h
-lead_keeps Good kinds (Act site asks args) line s s' w meet fits keeps h = acts_keeps Good kinds site asks args (operands s args) (ask w (act_request asks site (operands s args))) s s' w meet keeps h
-lead_keeps Good kinds (Check site source) line s s' w meet fits keeps h = absurd fits
-lead_keeps Good kinds (Ack site args) line s s' w meet fits keeps h = absurd fits
-lead_keeps Good kinds (End source) line s s' w meet fits keeps h = absurd fits
+lead_keeps program Good kinds (Act site asks args) line s s' w meet fits keeps h = acts_keeps Good kinds site asks args (operands s args) (ask w (act_request asks site (operands s args))) s s' w meet keeps h
+lead_keeps program Good kinds (Check site source) line s s' w meet fits keeps h = absurd fits
+lead_keeps program Good kinds (Ack site args) line s s' w meet fits keeps h = absurd fits
+lead_keeps program Good kinds (End source) line s s' w meet fits keeps h = absurd fits
 
 checks_by : (b : Bool) (s s' : SideState) (word own : ℕ) → cond b (Went (passed_on s)) (Ended (Mismatch word own)) ≡ Went s' → passed_on s ≡ s'
 checks_by true s s' word own h = cc
@@ -100,20 +100,20 @@ checks_keeps Good kinds site source own s s' Closed keeps h = absurd (cc)
 checks_keeps Good kinds site source own s s' Plain keeps h = let e : s ≡ s' = cc in subst Good e keeps.itself
 checks_keeps Good kinds site source own s s' (Failed written) keeps h = let e : s ≡ s' = cc in subst Good e keeps.itself
 
-trail_keeps : (Good : SideState → Type 0) (kinds : List RegisterKind) (op : VersionOp) (line : ℕ) (s s' : SideState) (w : WorldState) (meet : Meet) → OpFits Trail kinds op → Keeps Good kinds op s → (trail_op op line s w meet).outcome ≡ Went s' → Good s'
-trail_keeps Good kinds (Copied mid) line s s' w meet fits keeps h = performed_keeps Good kinds mid line s s' (act mid line s.machine) fits keeps refl h
-trail_keeps Good kinds (Check site source) line s s' w meet fits keeps h = checks_keeps Good kinds site source _ s s' meet keeps h
-trail_keeps Good kinds (Ack site args) line s s' w meet fits keeps h = let e : passed_on s ≡ s' = cc in passed_keeps Good kinds (Ack site args) s s' keeps (λ none. none) e
-trail_keeps Good kinds (End source) line s s' w meet fits keeps h = absurd (cc)
-trail_keeps Good kinds (Ask site args) line s s' w meet fits keeps h = absurd fits
-trail_keeps Good kinds (Await site args) line s s' w meet fits keeps h = absurd fits
-trail_keeps Good kinds (Act site asks args) line s s' w meet fits keeps h = absurd fits
+trail_keeps : (program : MidProgram) (Good : SideState → Type 0) (kinds : List RegisterKind) (op : VersionOp) (line : ℕ) (s s' : SideState) (w : WorldState) (meet : Meet) → OpFits Trail kinds op → Keeps Good kinds op s → (trail_op program op line s w meet).outcome ≡ Went s' → Good s'
+trail_keeps program Good kinds (Copied mid) line s s' w meet fits keeps h = performed_keeps program Good kinds mid line s s' (act program mid line s.machine) fits keeps refl h
+trail_keeps program Good kinds (Check site source) line s s' w meet fits keeps h = checks_keeps Good kinds site source _ s s' meet keeps h
+trail_keeps program Good kinds (Ack site args) line s s' w meet fits keeps h = let e : passed_on s ≡ s' = cc in passed_keeps Good kinds (Ack site args) s s' keeps (λ none. none) e
+trail_keeps program Good kinds (End source) line s s' w meet fits keeps h = absurd (cc)
+trail_keeps program Good kinds (Ask site args) line s s' w meet fits keeps h = absurd fits
+trail_keeps program Good kinds (Await site args) line s s' w meet fits keeps h = absurd fits
+trail_keeps program Good kinds (Act site asks args) line s s' w meet fits keeps h = absurd fits
 
-module _ (program : MidProgram) (s s' : SideState) (w : WorldState) (meet : Meet) (valid : IsValid program) where
+module _ (program : MidProgram) (s s' : SideState) (w : WorldState) (meet : Meet) (sites : HasSites program) where
   keeps_fit : (side : Side) → (fits : SideFits side program s) → Keeps (SideFits side program) fits.function.kinds fits.line.op s
   keeps_fit side fits = record {
     itself = fits;
-    next = fits_next side program s valid fits;
+    next = fits_next side program s sites fits;
     more = λ heard h. record { function = fits.function; line = fits.line; found = fits.found; at = fits.at; registers = fits.registers; each = fits.each; heard = h };
     each = fits.each;
   }
@@ -122,11 +122,11 @@ module _ (program : MidProgram) (s s' : SideState) (w : WorldState) (meet : Meet
   pub lead_fits : SideFits Lead program s → (lead_next program s w meet).outcome ≡ Went s' → SideFits Lead program s'
   unfolding lead_next
   lead_fits fits h =
-      lead_keeps (SideFits Lead program) fits.function.kinds fits.line.op fits.line.line s s' w meet (op_fits Lead program s valid fits) (keeps_fit Lead fits)
-      (ap (λ o. (lead_at o s w meet).outcome) (sym fits.at) ∙ h)
+      lead_keeps program (SideFits Lead program) fits.function.kinds fits.line.op fits.line.line s s' w meet (op_fits Lead program s sites fits) (keeps_fit Lead fits)
+      (ap (λ o. (lead_at program o s w meet).outcome) (sym fits.at) ∙ h)
 
   pub trail_fits : SideFits Trail program s → (trail_next program s w meet).outcome ≡ Went s' → SideFits Trail program s'
   unfolding trail_next
   trail_fits fits h =
-      trail_keeps (SideFits Trail program) fits.function.kinds fits.line.op fits.line.line s s' w meet (op_fits Trail program s valid fits) (keeps_fit Trail fits)
-      (ap (λ o. (trail_at o s w meet).outcome) (sym fits.at) ∙ h)
+      trail_keeps program (SideFits Trail program) fits.function.kinds fits.line.op fits.line.line s s' w meet (op_fits Trail program s sites fits) (keeps_fit Trail fits)
+      (ap (λ o. (trail_at program o s w meet).outcome) (sym fits.at) ∙ h)

@@ -1,8 +1,8 @@
+pub mod FirstForm
 pub mod Groups
 pub mod Placed
 pub mod Fitting
 pub mod Sending
-pub mod Performing
 pub mod Comparing
 pub mod Trying
 pub mod Keeping

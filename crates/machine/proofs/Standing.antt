@@ -14,9 +14,8 @@ use Rattle.mid_code.specs.declared.version.Asks.TheVariants.{Put as AskPut, Exit
 use Rattle.mid_code.specs.declared.version.VersionOp.{VersionOp}
 use Rattle.mid_code.specs.declared.version.VersionOp.TheVariants.{Copied, Ask, Await, Act, Check, Ack, End}
 use Rattle.mid_code.specs.declared.version.VersionLine.{VersionLine}
-use Rattle.mid_code.specs.Valid.{IsValid}
-use Rattle.mid_code.specs.Fits.{AreWithin}
-use Rattle.mid_code.proofs.Fitting.{within_fit, found_one}
+use Rattle.mid_code.specs.Pairs.{HasSites}
+use Rattle.mid_code.proofs.Values.{found_one}
 use Rattle.mid_code.specs.Machine.{register}
 use Rattle.world.specs.World.{WorldState, Asked, ask}
 use Rattle.word_stream.specs.declared.request.Request.{Request}
@@ -24,7 +23,7 @@ use Rattle.word_stream.specs.declared.request.Request.TheVariants.{Put, Exit}
 use Rattle.machine.specs.declared.thread_end.Stepped.{Stepped}
 use Rattle.machine.specs.declared.thread_end.Stepped.TheVariants.{Went as Made, NotYet, Ended as MadeLast}
 use Rattle.machine.specs.Side.{SideState, Meet, Plain, Got, Closed, Failed, Outcome, Went, Ended, StepGives}
-use Rattle.machine.specs.Steps.{side_op, takes, may_send, takes_at, may_send_at, operands}
+use Rattle.machine.specs.Steps.{side_op, takes, may_send, takes_at, may_send_at, operands, IsPerformed}
 use Rattle.machine.specs.Leading.{act_request, acts, lead_op, lead_at, lead_next}
 use Rattle.machine.specs.Trailing.{trail_op, trail_at, trail_next}
 use Rattle.machine.specs.Tried.{Shown, Tries, TriesBy}
@@ -34,9 +33,9 @@ use Rattle.machine.proofs.Placed.{Placed}
 use Rattle.machine.proofs.Fitting.{here, op_fits}
 use Rattle.machine.proofs.Keeping.{lead_fits, trail_fits}
 
-module _ (side : Side) (program : MidProgram) (s : SideState) (valid : IsValid program) (fits : SideFits side program s) where
+module _ (side : Side) (program : MidProgram) (s : SideState) (sites : HasSites program) (fits : SideFits side program s) where
   pub small_place : s.machine.top.place < 2 ^ 18
-  small_place = (here side program s valid fits).small
+  small_place = (here side program s sites fits).small
 
   module _ (l : VersionLine) (op : VersionOp) (at : side_op side program s ≡ Some l) (is : l.op ≡ op) where
     same_line : fits.line ≡ l
@@ -46,7 +45,7 @@ module _ (side : Side) (program : MidProgram) (s : SideState) (valid : IsValid p
     same_op = ap (λ (x : VersionLine). x.op) same_line ∙ is
 
     pub op_here : OpFits side fits.function.kinds op
-    op_here = subst (OpFits side fits.function.kinds) same_op (op_fits side program s valid fits)
+    op_here = subst (OpFits side fits.function.kinds) same_op (op_fits side program s sites fits)
 
     pub heard_here : HeardFits op s.heard
     heard_here = subst (λ o. HeardFits o s.heard) same_op fits.heard
@@ -57,24 +56,24 @@ module _ (side : Side) (program : MidProgram) (s : SideState) (valid : IsValid p
   pub source_within : (source : ℕ) → source < length fits.function.kinds → source < length s.machine.top.registers
   source_within source good = rw fits.registers good
 
-  pub copied_within : (mid : Mid) → CopiedFits fits.function.kinds mid → AreWithin (length s.machine.top.registers) mid
-  copied_within mid good = rw fits.registers (within_fit fits.function.kinds mid good.fit)
+  pub copied_within : (mid : Mid) → CopiedFits fits.function.kinds mid → IsPerformed (length s.machine.top.registers) mid
+  copied_within mid good = rw fits.registers good.performed
 
 module _ (program : MidProgram) (s s' : SideState) (w w' : WorldState) (stepped : Stepped) (events : List Event) (before after : Shown) where
   -- the try of a step by its instruction
   pub lead_tries : (l : VersionLine) (op : VersionOp) → side_op Lead program s ≡ Some l → l.op ≡ op →
-      TriesBy (takes op) (may_send op) (λ meet. lead_op op l.line s w meet) s w stepped s' w' events before after → Tries Lead program s w stepped s' w' events before after
+      TriesBy (takes op) (may_send op) (λ meet. lead_op program op l.line s w meet) s w stepped s' w' events before after → Tries Lead program s w stepped s' w' events before after
   unfolding lead_next
   lead_tries l op at is h =
-      subst (λ (o : Option VersionLine). TriesBy (takes_at o) (may_send_at o) (λ meet. lead_at o s w meet) s w stepped s' w' events before after) (sym at)
-      (subst (λ (o : VersionOp). TriesBy (takes o) (may_send o) (λ meet. lead_op o l.line s w meet) s w stepped s' w' events before after) (sym is) h)
+      subst (λ (o : Option VersionLine). TriesBy (takes_at o) (may_send_at o) (λ meet. lead_at program o s w meet) s w stepped s' w' events before after) (sym at)
+      (subst (λ (o : VersionOp). TriesBy (takes o) (may_send o) (λ meet. lead_op program o l.line s w meet) s w stepped s' w' events before after) (sym is) h)
 
   pub trail_tries : (l : VersionLine) (op : VersionOp) → side_op Trail program s ≡ Some l → l.op ≡ op →
-      TriesBy (takes op) (may_send op) (λ meet. trail_op op l.line s w meet) s w stepped s' w' events before after → Tries Trail program s w stepped s' w' events before after
+      TriesBy (takes op) (may_send op) (λ meet. trail_op program op l.line s w meet) s w stepped s' w' events before after → Tries Trail program s w stepped s' w' events before after
   unfolding trail_next
   trail_tries l op at is h =
-      subst (λ (o : Option VersionLine). TriesBy (takes_at o) (may_send_at o) (λ meet. trail_at o s w meet) s w stepped s' w' events before after) (sym at)
-      (subst (λ (o : VersionOp). TriesBy (takes o) (may_send o) (λ meet. trail_op o l.line s w meet) s w stepped s' w' events before after) (sym is) h)
+      subst (λ (o : Option VersionLine). TriesBy (takes_at o) (may_send_at o) (λ meet. trail_at program o s w meet) s w stepped s' w' events before after) (sym at)
+      (subst (λ (o : VersionOp). TriesBy (takes o) (may_send o) (λ meet. trail_op program o l.line s w meet) s w stepped s' w' events before after) (sym is) h)
 
 -- what lives on: only the end of a run stops the world
 alive_request : (asks : Asks) (site : Site) (values : List ℕ) (s s' : SideState) (w : WorldState) (meet : Meet) → IsTrue w.live → (acts meet (act_request asks site values) (ask w (act_request asks site values)) s w).outcome ≡ Went s' → IsTrue (acts meet (act_request asks site values) (ask w (act_request asks site values)) s w).world.live
@@ -85,33 +84,33 @@ alive_request AskExit site values s s' w Plain live h = absurd (cc)
 alive_request asks site values s s' w (Got word) live h = live
 alive_request asks site values s s' w Closed live h = live
 
-alive_op : (op : VersionOp) (line : ℕ) (s s' : SideState) (w : WorldState) (meet : Meet) → IsTrue w.live → (lead_op op line s w meet).outcome ≡ Went s' → IsTrue (lead_op op line s w meet).world.live
-alive_op (Copied mid) line s s' w meet live h = live
-alive_op (Ask site args) line s s' w meet live h = live
-alive_op (Await site args) line s s' w meet live h = live
-alive_op (Act site asks args) line s s' w meet live h = alive_request asks site (operands s args) s s' w meet live h
-alive_op (Check site source) line s s' w meet live h = live
-alive_op (Ack site args) line s s' w meet live h = live
-alive_op (End source) line s s' w meet live h = live
+alive_op : (program : MidProgram) (op : VersionOp) (line : ℕ) (s s' : SideState) (w : WorldState) (meet : Meet) → IsTrue w.live → (lead_op program op line s w meet).outcome ≡ Went s' → IsTrue (lead_op program op line s w meet).world.live
+alive_op program (Copied mid) line s s' w meet live h = live
+alive_op program (Ask site args) line s s' w meet live h = live
+alive_op program (Await site args) line s s' w meet live h = live
+alive_op program (Act site asks args) line s s' w meet live h = alive_request asks site (operands s args) s s' w meet live h
+alive_op program (Check site source) line s s' w meet live h = live
+alive_op program (Ack site args) line s s' w meet live h = live
+alive_op program (End source) line s s' w meet live h = live
 
-alive_at : (o : Option VersionLine) (s s' : SideState) (w : WorldState) (meet : Meet) → IsTrue w.live → (lead_at o s w meet).outcome ≡ Went s' → IsTrue (lead_at o s w meet).world.live
-alive_at None s s' w meet live h = live
-alive_at (Some l) s s' w meet live h = alive_op l.op l.line s s' w meet live h
+alive_at : (program : MidProgram) (o : Option VersionLine) (s s' : SideState) (w : WorldState) (meet : Meet) → IsTrue w.live → (lead_at program o s w meet).outcome ≡ Went s' → IsTrue (lead_at program o s w meet).world.live
+alive_at program None s s' w meet live h = live
+alive_at program (Some l) s s' w meet live h = alive_op program l.op l.line s s' w meet live h
 
 pub lead_lives : (program : MidProgram) (s s' : SideState) (w : WorldState) (meet : Meet) → IsTrue w.live → (lead_next program s w meet).outcome ≡ Went s' → IsTrue (lead_next program s w meet).world.live
 unfolding lead_next
-lead_lives program s s' w meet live h = alive_at (side_op Lead program s) s s' w meet live h
+lead_lives program s s' w meet live h = alive_at program (side_op Lead program s) s s' w meet live h
 
 module _ (program : MidProgram) (s s' : SideState) (w w' : WorldState) (events : List Event) (before after : Shown) where
-  pub lead_fits_after : (stepped : Stepped) → IsValid program → SideFits Lead program s → Tries Lead program s w stepped s' w' events before after → FitsAfter stepped Lead program s'
-  lead_fits_after Made valid fits tries = lead_fits program s s' w tries.meet valid fits tries.outcome_is
-  lead_fits_after NotYet valid fits tries = subst (SideFits Lead program) (sym tries.same_side) fits
-  lead_fits_after (MadeLast end) valid fits tries = tt
+  pub lead_fits_after : (stepped : Stepped) → HasSites program → SideFits Lead program s → Tries Lead program s w stepped s' w' events before after → FitsAfter stepped Lead program s'
+  lead_fits_after Made sites fits tries = lead_fits program s s' w tries.meet sites fits tries.outcome_is
+  lead_fits_after NotYet sites fits tries = subst (SideFits Lead program) (sym tries.same_side) fits
+  lead_fits_after (MadeLast end) sites fits tries = tt
 
-  pub trail_fits_after : (stepped : Stepped) → IsValid program → SideFits Trail program s → Tries Trail program s w stepped s' w' events before after → FitsAfter stepped Trail program s'
-  trail_fits_after Made valid fits tries = trail_fits program s s' w tries.meet valid fits tries.outcome_is
-  trail_fits_after NotYet valid fits tries = subst (SideFits Trail program) (sym tries.same_side) fits
-  trail_fits_after (MadeLast end) valid fits tries = tt
+  pub trail_fits_after : (stepped : Stepped) → HasSites program → SideFits Trail program s → Tries Trail program s w stepped s' w' events before after → FitsAfter stepped Trail program s'
+  trail_fits_after Made sites fits tries = trail_fits program s s' w tries.meet sites fits tries.outcome_is
+  trail_fits_after NotYet sites fits tries = subst (SideFits Trail program) (sym tries.same_side) fits
+  trail_fits_after (MadeLast end) sites fits tries = tt
 
   pub lead_lives_after : (stepped : Stepped) → IsTrue w.live → Tries Lead program s w stepped s' w' events before after → LivesAfter stepped w'
   lead_lives_after Made live tries = subst (λ (v : WorldState). IsTrue v.live) tries.world_is (lead_lives program s s' w tries.meet live tries.outcome_is)

@@ -55,21 +55,21 @@ acts (Got word) request asked s w = quiet w (Went s)
 acts Closed request asked s w = quiet w (Went s)
 
 -- what an instruction of the leading version does, one case for each
-abbrev pub lead_op : VersionOp → ℕ → SideState → WorldState → Meet → StepGives
-lead_op (Copied mid) line s w meet = quiet w (performed (act mid line s.machine) s)
-lead_op (Ask site args) line s w meet = sends w s (check_words site.0 (operands s args))
-lead_op (Await site args) line s w meet = quiet w (awaits meet (ack_words site.0 (operands s args)) s)
-lead_op (Act site asks args) line s w meet =
+abbrev pub lead_op : MidProgram → VersionOp → ℕ → SideState → WorldState → Meet → StepGives
+lead_op program (Copied mid) line s w meet = quiet w (performed (act program mid line s.machine) s)
+lead_op program (Ask site args) line s w meet = sends w s (check_words site.0 (operands s args))
+lead_op program (Await site args) line s w meet = quiet w (awaits meet (ack_words site.0 (operands s args)) s)
+lead_op program (Act site asks args) line s w meet =
     let request = act_request asks site (operands s args) in acts meet request (ask w request) s w
 -- the others stand in no leading version
-lead_op (Check site source) line s w meet = quiet w (Went s)
-lead_op (Ack site args) line s w meet = quiet w (Went s)
-lead_op (End source) line s w meet = quiet w (Went s)
+lead_op program (Check site source) line s w meet = quiet w (Went s)
+lead_op program (Ack site args) line s w meet = quiet w (Went s)
+lead_op program (End source) line s w meet = quiet w (Went s)
 
-abbrev pub lead_at : Option VersionLine → SideState → WorldState → Meet → StepGives
-lead_at None s w meet = quiet w (Went s)
-lead_at (Some l) s w meet = lead_op l.op l.line s w meet
+abbrev pub lead_at : MidProgram → Option VersionLine → SideState → WorldState → Meet → StepGives
+lead_at program None s w meet = quiet w (Went s)
+lead_at program (Some l) s w meet = lead_op program l.op l.line s w meet
 
 -- one step of the leading side, with the world as it is and what the step meets
 unfoldable pub lead_next : MidProgram → SideState → WorldState → Meet → StepGives
-lead_next program s w meet = lead_at (side_op Lead program s) s w meet
+lead_next program s w meet = lead_at program (side_op Lead program s) s w meet

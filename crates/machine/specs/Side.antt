@@ -1,9 +1,10 @@
 -- One side of a pair: where it stands, what a step of it meets, and what that step gives.
 use Rattle.std.specs.Prelude.{ℕ, List, []}
 use Rattle.srmt_base.specs.declared.event.Event.{Event}
+use Rattle.srmt_base.specs.declared.limits.Limits.{Limits}
 use Rattle.mid_code.specs.declared.program.MidProgram.{MidProgram}
 use Rattle.mid_code.specs.Machine.{Machine}
-use Rattle.mid_code.specs.Meaning.{started}
+use Rattle.mid_code.specs.Start.{started_machine}
 use Rattle.world.specs.World.{WorldState}
 use Rattle.machine.specs.declared.thread_end.ThreadEnd.{ThreadEnd}
 
@@ -35,5 +36,5 @@ pub record StepGives : Type 0 where
   pub events : List Event
 
 -- where each side begins: `main` is entered, with all registers 0
-abbrev pub opening : MidProgram → SideState
-opening program = record { machine = started program; heard = [] }
+abbrev pub opening : MidProgram → Limits → SideState
+opening program limits = record { machine = started_machine program limits; heard = [] }

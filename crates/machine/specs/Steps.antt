@@ -1,7 +1,9 @@
 -- What the steps of both sides share.
-use Rattle.std.specs.Prelude.{ℕ, Bool, true, false, List, [], Option, Some, None, map}
+use Rattle.std.specs.Prelude.{ℕ, ◌<◌, Bool, true, false, List, [], Option, Some, None, map}
 use Rattle.srmt_base.specs.declared.side.Side.{Side}
 use Rattle.srmt_base.specs.declared.side.Side.TheVariants.{Lead, Trail}
+use Rattle.mid_code.specs.declared.mid.Mid.{Mid}
+use Rattle.mid_code.specs.declared.mid.Mid.TheVariants.{Const, Conv}
 use Rattle.mid_code.specs.declared.program.MidProgram.{MidProgram}
 use Rattle.mid_code.specs.declared.version.VersionOp.{VersionOp}
 use Rattle.mid_code.specs.declared.version.VersionOp.TheVariants.{Copied, Ask, Await, Act, Check, Ack, End}
@@ -62,11 +64,17 @@ operands s args = map (register s.machine) args
 abbrev pub passed_on : SideState → SideState
 passed_on s = record { machine = passed s.machine; heard = [] }
 
+-- an instruction that both sides perform, whose registers are among so many
+abbrev pub IsPerformed : ℕ → Mid → Type 0
+IsPerformed count (Const target value) = target < count
+IsPerformed count (Conv from to target source) = (target < count) × (source < count)
+IsPerformed count _ = ⊥
+
 -- an instruction that both sides perform, by what it does
 abbrev pub performed : Does → SideState → Outcome
 performed (Goes machine) s = Went (record { machine = machine; heard = [] })
 performed (Traps trap line) s = Ended (Trap trap line)
-performed (Reaches access) s = Went s
+performed (Reaches access line) s = Went s
 performed Lost s = Went s
 
 -- a step that reaches neither the other side nor the world

@@ -22,20 +22,20 @@ checks Plain own s = Went s
 checks (Failed written) own s = Went s
 
 -- what an instruction of the trailing version does, one case for each
-abbrev pub trail_op : VersionOp → ℕ → SideState → WorldState → Meet → StepGives
-trail_op (Copied mid) line s w meet = quiet w (performed (act mid line s.machine) s)
-trail_op (Check site source) line s w meet = quiet w (checks meet (word_of CheckKind site.0 (register s.machine source)) s)
-trail_op (Ack site args) line s w meet = sends w s (ack_words site.0 (operands s args))
-trail_op (End source) line s w meet = quiet w (Ended (ExitEnd (register s.machine source % 256)))
+abbrev pub trail_op : MidProgram → VersionOp → ℕ → SideState → WorldState → Meet → StepGives
+trail_op program (Copied mid) line s w meet = quiet w (performed (act program mid line s.machine) s)
+trail_op program (Check site source) line s w meet = quiet w (checks meet (word_of CheckKind site.0 (register s.machine source)) s)
+trail_op program (Ack site args) line s w meet = sends w s (ack_words site.0 (operands s args))
+trail_op program (End source) line s w meet = quiet w (Ended (ExitEnd (register s.machine source % 256)))
 -- the others stand in no trailing version
-trail_op (Ask site args) line s w meet = quiet w (Went s)
-trail_op (Await site args) line s w meet = quiet w (Went s)
-trail_op (Act site asks args) line s w meet = quiet w (Went s)
+trail_op program (Ask site args) line s w meet = quiet w (Went s)
+trail_op program (Await site args) line s w meet = quiet w (Went s)
+trail_op program (Act site asks args) line s w meet = quiet w (Went s)
 
-abbrev pub trail_at : Option VersionLine → SideState → WorldState → Meet → StepGives
-trail_at None s w meet = quiet w (Went s)
-trail_at (Some l) s w meet = trail_op l.op l.line s w meet
+abbrev pub trail_at : MidProgram → Option VersionLine → SideState → WorldState → Meet → StepGives
+trail_at program None s w meet = quiet w (Went s)
+trail_at program (Some l) s w meet = trail_op program l.op l.line s w meet
 
 -- one step of the trailing side, with what it meets; the world is the leading side's, and stays
 unfoldable pub trail_next : MidProgram → SideState → WorldState → Meet → StepGives
-trail_next program s w meet = trail_at (side_op Trail program s) s w meet
+trail_next program s w meet = trail_at program (side_op Trail program s) s w meet

@@ -17,6 +17,8 @@ pub struct Machine {
     pub(crate) place: usize,
     pub(crate) registers: Vec<u64>,
     pub(crate) heard: Heard,
+    // What the run was started with, of which the entry of `main` alone has spent.
+    pub(crate) limits: Limits,
 }
 
 impl Model for Machine {
@@ -36,9 +38,9 @@ impl Machine {
         alloc: Global,
         pair: &Pair,
         _side: Side,
-        _limits: Limits,
+        limits: Limits,
     ) -> Result<Machine, AllocError>
-        ensures opening { IfOk result (λ machine. machine ≡ opening pair.now) }
+        ensures opening { IfOk result (λ machine. machine ≡ opening pair.now limits) }
         ensures fits { IfOk result (SideFits _side pair.now) }
     {
         let program = pair.classed().program();
@@ -48,6 +50,7 @@ impl Machine {
             place: 0,
             registers: vec![in alloc; 0; count]?,
             heard: Heard::new(),
+            limits,
         })
     }
 

@@ -1,10 +1,9 @@
 ghost use Rattle.std.specs.Prelude.{◌≡◌, ℕ, ◌+◌, ◌-◌, ◌^◌, ◌<◌, ◌≤◌, ◌⊎◌, Bool, true, false, List, [], ◌∷◌, ◌++◌, All, length, map, take};
 ghost use Rattle.srmt_base.specs.Word.{word_of};
-ghost use Rattle.mid_code.specs.declared.access.Access.{Access};
-ghost use Rattle.mid_code.specs.Fits.{AreWithin};
-ghost use Rattle.mid_code.specs.Machine.{Machine as MachineState, Reaches, act};
+ghost use Rattle.mid_code.specs.declared.program.MidProgram.{MidProgram};
+ghost use Rattle.mid_code.specs.Machine.{act, given};
 ghost use Rattle.world.specs.World.{WorldState};
-ghost use Rattle.machine.specs.Steps.{operands, performed, sends};
+ghost use Rattle.machine.specs.Steps.{operands, IsPerformed, performed, sends};
 ghost use Rattle.machine.specs.Tried.{shown, Comes, Sends, TriesBy};
 
 use crate::link::Link;
@@ -12,23 +11,41 @@ use crate::machine::Machine;
 use crate::thread_end::Stepped;
 use mid_code::Mid;
 use sqlite_items::Items;
-use srmt_base::{Kind, Site, pack};
+use srmt_base::{Kind, Site, convert, pack};
 
 /// For how many words a step that may send wants room.
 pub(crate) const STEP_ROOM: u8 = 18;
 
-/// Performs an instruction that both sides perform.
-pub(crate) fn perform(m: &mut Machine, mid: Mid, _line: u32) -> Stepped
-    requires registers { AreWithin (length m.old.machine.top.registers) mid }
-    requires alone { (line : ℕ) (state : MachineState) (access : Access) → act mid line state ≡ Reaches access → ⊥ }
+// Passes its instruction, with a value in the target register.
+fn set(m: &mut Machine, target: u16, value: u64)
+    requires register { target < length m.old.machine.top.registers }
     requires place { m.old.machine.top.place < 2 ^ 18 }
-    ensures { Comes result m.new (performed (act mid _line m.old.machine) m.old) }
+    ensures { m.new ≡ record { machine = given target value m.old.machine; heard = [] } }
 {
-    if mid_run::act(mid, &mut m.registers).is_some() {
-        unreachable!()
+    m.registers[usize::from(target)] = value;
+    m.pass();
+}
+
+/// Performs an instruction that both sides perform. None of them stops the run.
+pub(crate) fn perform(m: &mut Machine, mid: Mid, _line: u32) -> Stepped
+    requires performed { IsPerformed (length m.old.machine.top.registers) mid }
+    requires place { m.old.machine.top.place < 2 ^ 18 }
+    ensures went { result ≡ Stepped.Went }
+    ensures comes { (program : MidProgram) → Comes result m.new (performed (act program mid _line m.old.machine) m.old) }
+{
+    match mid {
+        Mid::Const { target, value } => set(m, target, value),
+        Mid::Conv {
+            from,
+            to,
+            target,
+            source,
+        } => {
+            let value = convert(from, to, m.register(source));
+            set(m, target, value);
+        }
+        _ => unreachable!(),
     }
-    m.place += 1;
-    m.heard.clear();
     Stepped::Went
 }
 

@@ -17,67 +17,61 @@ use Rattle.machine.proofs.Trying.{was_quiet, sends_no_fault, awaits_no_fault}
 use Rattle.machine.proofs.Standing.{found_at, small_place, op_here, heard_here, args_within, source_within, copied_within, lead_tries, lead_fits_after, lead_lives_after, first_operand, first_within, first_there, same_request}
 use Rattle.machine.proofs.leading.lead_step.Goals as goal
 
-pub perform-stepped-requires-clause-registers : goal.perform-stepped-requires-clause-registers
-perform-stepped-requires-clause-registers g c =
+pub perform-stepped-requires-clause-performed : goal.perform-stepped-requires-clause-performed
+perform-stepped-requires-clause-performed g c =
     let at = found_at Lead c.args.pair.now c.args.m.now _ c.in-Some.line.now _ c.m.view_is c.leading_at.ensures (ap option_copied c.in-Some.is) in
-    let here = op_here Lead c.args.pair.now c.args.m.now c.classed-pair.ensures.sites.valid c.requires.fits c.in-Some.line.now (Copied c.in-Copied.mid) at c.in-Copied.is in
-    copied_within Lead c.args.pair.now c.args.m.now c.classed-pair.ensures.sites.valid c.requires.fits c.in-Copied.mid here
-
-pub perform-stepped-requires-clause-alone : goal.perform-stepped-requires-clause-alone
-perform-stepped-requires-clause-alone g c =
-    let at = found_at Lead c.args.pair.now c.args.m.now _ c.in-Some.line.now _ c.m.view_is c.leading_at.ensures (ap option_copied c.in-Some.is) in
-    let here = op_here Lead c.args.pair.now c.args.m.now c.classed-pair.ensures.sites.valid c.requires.fits c.in-Some.line.now (Copied c.in-Copied.mid) at c.in-Copied.is in
-    here.alone
+    let here = op_here Lead c.args.pair.now c.args.m.now c.classed-pair.ensures.sites c.requires.fits c.in-Some.line.now (Copied c.in-Copied.mid) at c.in-Copied.is in
+    copied_within Lead c.args.pair.now c.args.m.now c.classed-pair.ensures.sites c.requires.fits c.in-Copied.mid here
 
 pub perform-stepped-requires-clause-place : goal.perform-stepped-requires-clause-place
 perform-stepped-requires-clause-place g c =
-    small_place Lead c.args.pair.now c.args.m.now c.classed-pair.ensures.sites.valid c.requires.fits
+    small_place Lead c.args.pair.now c.args.m.now c.classed-pair.ensures.sites c.requires.fits
 
 pub send_operands-stepped-requires-clause-few : goal.send_operands-stepped-requires-clause-few
 send_operands-stepped-requires-clause-few g c =
     let at = found_at Lead c.args.pair.now c.args.m.now _ c.in-Some.line.now _ c.m.view_is c.leading_at.ensures (ap option_copied c.in-Some.is) in
-    let here = op_here Lead c.args.pair.now c.args.m.now c.classed-pair.ensures.sites.valid c.requires.fits c.in-Some.line.now (Ask c.in-Ask.site c.in-Ask.args) at c.in-Ask.is in
+    let here = op_here Lead c.args.pair.now c.args.m.now c.classed-pair.ensures.sites c.requires.fits c.in-Some.line.now (Ask c.in-Ask.site c.in-Ask.args) at c.in-Ask.is in
     here.few
 
 pub send_operands-stepped-requires-clause-registers : goal.send_operands-stepped-requires-clause-registers
 send_operands-stepped-requires-clause-registers g c =
     let at = found_at Lead c.args.pair.now c.args.m.now _ c.in-Some.line.now _ c.m.view_is c.leading_at.ensures (ap option_copied c.in-Some.is) in
-    let here = op_here Lead c.args.pair.now c.args.m.now c.classed-pair.ensures.sites.valid c.requires.fits c.in-Some.line.now (Ask c.in-Ask.site c.in-Ask.args) at c.in-Ask.is in
-    args_within Lead c.args.pair.now c.args.m.now c.classed-pair.ensures.sites.valid c.requires.fits c.in-Ask.args here
+    let here = op_here Lead c.args.pair.now c.args.m.now c.classed-pair.ensures.sites c.requires.fits c.in-Some.line.now (Ask c.in-Ask.site c.in-Ask.args) at c.in-Ask.is in
+    args_within Lead c.args.pair.now c.args.m.now c.classed-pair.ensures.sites c.requires.fits c.in-Ask.args here
 
 pub send_operands-stepped-requires-clause-place : goal.send_operands-stepped-requires-clause-place
 send_operands-stepped-requires-clause-place g c =
-    small_place Lead c.args.pair.now c.args.m.now c.classed-pair.ensures.sites.valid c.requires.fits
+    small_place Lead c.args.pair.now c.args.m.now c.classed-pair.ensures.sites c.requires.fits
 
 pub await_acks-stepped-requires-clause-few : goal.await_acks-stepped-requires-clause-few
 await_acks-stepped-requires-clause-few g c =
     let at = found_at Lead c.args.pair.now c.args.m.now _ c.in-Some.line.now _ c.m.view_is c.leading_at.ensures (ap option_copied c.in-Some.is) in
-    let here = op_here Lead c.args.pair.now c.args.m.now c.classed-pair.ensures.sites.valid c.requires.fits c.in-Some.line.now (Await c.in-Await.site c.in-Await.args) at c.in-Await.is in
+    let here = op_here Lead c.args.pair.now c.args.m.now c.classed-pair.ensures.sites c.requires.fits c.in-Some.line.now (Await c.in-Await.site c.in-Await.args) at c.in-Await.is in
     here.few
 
 pub await_acks-stepped-requires-clause-registers : goal.await_acks-stepped-requires-clause-registers
 await_acks-stepped-requires-clause-registers g c =
     let at = found_at Lead c.args.pair.now c.args.m.now _ c.in-Some.line.now _ c.m.view_is c.leading_at.ensures (ap option_copied c.in-Some.is) in
-    let here = op_here Lead c.args.pair.now c.args.m.now c.classed-pair.ensures.sites.valid c.requires.fits c.in-Some.line.now (Await c.in-Await.site c.in-Await.args) at c.in-Await.is in
-    args_within Lead c.args.pair.now c.args.m.now c.classed-pair.ensures.sites.valid c.requires.fits c.in-Await.args here
+    let here = op_here Lead c.args.pair.now c.args.m.now c.classed-pair.ensures.sites c.requires.fits c.in-Some.line.now (Await c.in-Await.site c.in-Await.args) at c.in-Await.is in
+    args_within Lead c.args.pair.now c.args.m.now c.classed-pair.ensures.sites c.requires.fits c.in-Await.args here
 
 pub await_acks-stepped-requires-clause-more : goal.await_acks-stepped-requires-clause-more
 await_acks-stepped-requires-clause-more g c =
     let at = found_at Lead c.args.pair.now c.args.m.now _ c.in-Some.line.now _ c.m.view_is c.leading_at.ensures (ap option_copied c.in-Some.is) in
-    heard_here Lead c.args.pair.now c.args.m.now c.classed-pair.ensures.sites.valid c.requires.fits c.in-Some.line.now (Await c.in-Await.site c.in-Await.args) at c.in-Await.is
+    heard_here Lead c.args.pair.now c.args.m.now c.classed-pair.ensures.sites c.requires.fits c.in-Some.line.now (Await c.in-Await.site c.in-Await.args) at c.in-Await.is
 
 pub await_acks-stepped-requires-clause-place : goal.await_acks-stepped-requires-clause-place
 await_acks-stepped-requires-clause-place g c =
-    small_place Lead c.args.pair.now c.args.m.now c.classed-pair.ensures.sites.valid c.requires.fits
+    small_place Lead c.args.pair.now c.args.m.now c.classed-pair.ensures.sites c.requires.fits
 
 pub unreachable-requires-in-Check : goal.unreachable-requires-in-Check
 unreachable-requires-in-Check g c =
     let at = found_at Lead c.args.pair.now c.args.m.now _ c.in-Some.line.now _ c.m.view_is c.leading_at.ensures (ap option_copied c.in-Some.is) in
     elim c.in-Check.is [
-      | inl check ↦ op_here Lead c.args.pair.now c.args.m.now c.classed-pair.ensures.sites.valid c.requires.fits c.in-Some.line.now (Check check.0 check.1) at check.2
+      | inl check ↦ op_here Lead c.args.pair.now c.args.m.now c.classed-pair.ensures.sites c.requires.fits c.in-Some.line.now (Check check.0 check.1) at check.2
       | inr rest ↦ elim rest [
-        | inl ack ↦ op_here Lead c.args.pair.now c.args.m.now c.classed-pair.ensures.sites.valid c.requires.fits c.in-Some.line.now (Ack ack.0 ack.1) at ack.2
-        | inr end ↦ op_here Lead c.args.pair.now c.args.m.now c.classed-pair.ensures.sites.valid c.requires.fits c.in-Some.line.now (End end.0) at end.1
+        | inl ack ↦ op_here Lead c.args.pair.now c.args.m.now c.classed-pair.ensures.sites c.requires.fits c.in-Some.line.now (Ack ack.0 ack.1) at ack.2
+        | inr end ↦ op_here Lead c.args.pair.now c.args.m.now c.classed-pair.ensures.sites c.requires.fits c.in-Some.line.now (End end.0) at end.1
       ]
     ]
 
@@ -86,7 +80,7 @@ returns-in-Copied-clause-step g c =
     let at = found_at Lead c.args.pair.now c.args.m.now _ c.in-Some.line.now _ c.m.view_is c.leading_at.ensures (ap option_copied c.in-Some.is) in
     let tries =
     lead_tries c.args.pair.now c.args.m.now c.perform-stepped.new.m c.args.w.now c.args.w.now c.perform-stepped.result [] _ _ c.in-Some.line.now (Copied c.in-Copied.mid) at c.in-Copied.is
-    (was_quiet _ c.args.m.now c.perform-stepped.new.m c.args.w.now c.perform-stepped.result _ c.perform-stepped.ensures)
+    (was_quiet _ c.args.m.now c.perform-stepped.new.m c.args.w.now c.perform-stepped.result _ (c.perform-stepped.ensures.comes c.args.pair.now))
     in
     ([], tries, Appends-nothing _)
 
@@ -96,9 +90,9 @@ returns-in-Copied-clause-fits g c =
     let link : Shown = record { sent = []; taken = []; gone = true; asks = 0; last = Nothing } in
     let tries =
     lead_tries c.args.pair.now c.args.m.now c.perform-stepped.new.m c.args.w.now c.args.w.now c.perform-stepped.result [] link link c.in-Some.line.now (Copied c.in-Copied.mid) at c.in-Copied.is
-    (was_quiet _ c.args.m.now c.perform-stepped.new.m c.args.w.now c.perform-stepped.result link c.perform-stepped.ensures)
+    (was_quiet _ c.args.m.now c.perform-stepped.new.m c.args.w.now c.perform-stepped.result link (c.perform-stepped.ensures.comes c.args.pair.now))
     in
-    lead_fits_after c.args.pair.now c.args.m.now c.perform-stepped.new.m c.args.w.now c.args.w.now [] link link c.perform-stepped.result c.classed-pair.ensures.sites.valid c.requires.fits tries
+    lead_fits_after c.args.pair.now c.args.m.now c.perform-stepped.new.m c.args.w.now c.args.w.now [] link link c.perform-stepped.result c.classed-pair.ensures.sites c.requires.fits tries
 
 pub returns-in-Copied-clause-live : goal.returns-in-Copied-clause-live
 returns-in-Copied-clause-live g c =
@@ -106,7 +100,7 @@ returns-in-Copied-clause-live g c =
     let link : Shown = record { sent = []; taken = []; gone = true; asks = 0; last = Nothing } in
     let tries =
     lead_tries c.args.pair.now c.args.m.now c.perform-stepped.new.m c.args.w.now c.args.w.now c.perform-stepped.result [] link link c.in-Some.line.now (Copied c.in-Copied.mid) at c.in-Copied.is
-    (was_quiet _ c.args.m.now c.perform-stepped.new.m c.args.w.now c.perform-stepped.result link c.perform-stepped.ensures)
+    (was_quiet _ c.args.m.now c.perform-stepped.new.m c.args.w.now c.perform-stepped.result link (c.perform-stepped.ensures.comes c.args.pair.now))
     in
     lead_lives_after c.args.pair.now c.args.m.now c.perform-stepped.new.m c.args.w.now c.args.w.now [] link link c.perform-stepped.result c.requires.live tries
 
@@ -126,7 +120,7 @@ returns-in-Ask-clause-fits g c =
     lead_tries c.args.pair.now c.args.m.now c.send_operands-stepped.new.m c.args.w.now c.args.w.now c.send_operands-stepped.result [] _ _ c.in-Some.line.now (Ask c.in-Ask.site c.in-Ask.args) at c.in-Ask.is
     (c.send_operands-stepped.ensures.tries c.args.w.now)
     in
-    lead_fits_after c.args.pair.now c.args.m.now c.send_operands-stepped.new.m c.args.w.now c.args.w.now [] _ _ c.send_operands-stepped.result c.classed-pair.ensures.sites.valid c.requires.fits tries
+    lead_fits_after c.args.pair.now c.args.m.now c.send_operands-stepped.new.m c.args.w.now c.args.w.now [] _ _ c.send_operands-stepped.result c.classed-pair.ensures.sites c.requires.fits tries
 
 pub returns-in-Ask-clause-live : goal.returns-in-Ask-clause-live
 returns-in-Ask-clause-live g c =
@@ -153,7 +147,7 @@ returns-in-Await-clause-fits g c =
     lead_tries c.args.pair.now c.args.m.now c.await_acks-stepped.new.m c.args.w.now c.args.w.now c.await_acks-stepped.result [] _ _ c.in-Some.line.now (Await c.in-Await.site c.in-Await.args) at c.in-Await.is
     (c.await_acks-stepped.ensures.tries c.args.w.now)
     in
-    lead_fits_after c.args.pair.now c.args.m.now c.await_acks-stepped.new.m c.args.w.now c.args.w.now [] _ _ c.await_acks-stepped.result c.classed-pair.ensures.sites.valid c.requires.fits tries
+    lead_fits_after c.args.pair.now c.args.m.now c.await_acks-stepped.new.m c.args.w.now c.args.w.now [] _ _ c.await_acks-stepped.result c.classed-pair.ensures.sites c.requires.fits tries
 
 pub returns-in-Await-clause-live : goal.returns-in-Await-clause-live
 returns-in-Await-clause-live g c =
@@ -173,19 +167,19 @@ returns-in-Await-clause-failed g c h = absurd (awaits_no_fault _ _ _ c.args.w.no
 pub unreachable-requires-in_default-get : goal.unreachable-requires-in_default-get
 unreachable-requires-in_default-get g c =
     let at = found_at Lead c.args.pair.now c.args.m.now _ c.in-Some.line.now _ c.m.view_is c.leading_at.ensures (ap option_copied c.in-Some.is) in
-    let here = op_here Lead c.args.pair.now c.args.m.now c.classed-pair.ensures.sites.valid c.requires.fits c.in-Some.line.now (Act c.in-Act.site c.in-Act.asks c.in-Act.args) at c.in-Act.is in
+    let here = op_here Lead c.args.pair.now c.args.m.now c.classed-pair.ensures.sites c.requires.fits c.in-Some.line.now (Act c.in-Act.site c.in-Act.asks c.in-Act.args) at c.in-Act.is in
     first_there _ c.in-Act.args here (sym c.get.ensures.value ∙ ap option_copied c.in_default-get.is)
 
 pub register-requires : goal.register-requires
 register-requires g c =
     let at = found_at Lead c.args.pair.now c.args.m.now _ c.in-Some.line.now _ c.m.view_is c.leading_at.ensures (ap option_copied c.in-Some.is) in
-    let here = op_here Lead c.args.pair.now c.args.m.now c.classed-pair.ensures.sites.valid c.requires.fits c.in-Some.line.now (Act c.in-Act.site c.in-Act.asks c.in-Act.args) at c.in-Act.is in
+    let here = op_here Lead c.args.pair.now c.args.m.now c.classed-pair.ensures.sites c.requires.fits c.in-Some.line.now (Act c.in-Act.site c.in-Act.asks c.in-Act.args) at c.in-Act.is in
     let first = sym c.get.ensures.value ∙ ap option_copied c.in-Some-get.is in
-    source_within Lead c.args.pair.now c.args.m.now c.classed-pair.ensures.sites.valid c.requires.fits c.in-Some-get.source.now (first_within _ c.in-Act.args c.in-Some-get.source.now here first)
+    source_within Lead c.args.pair.now c.args.m.now c.classed-pair.ensures.sites c.requires.fits c.in-Some-get.source.now (first_within _ c.in-Act.args c.in-Some-get.source.now here first)
 
 pub act_on-stepped-requires-clause-place : goal.act_on-stepped-requires-clause-place
 act_on-stepped-requires-clause-place g c =
-    small_place Lead c.args.pair.now c.args.m.now c.classed-pair.ensures.sites.valid c.requires.fits
+    small_place Lead c.args.pair.now c.args.m.now c.classed-pair.ensures.sites c.requires.fits
 
 pub returns-in-Some-get-clause-step : goal.returns-in-Some-get-clause-step
 returns-in-Some-get-clause-step g c =
@@ -209,7 +203,7 @@ returns-in-Some-get-clause-fits g c =
     lead_tries c.args.pair.now c.args.m.now c.act_on-stepped.new.m c.args.w.now c.act_on-stepped.new.w c.act_on-stepped.result acted.0 _ _ c.in-Some.line.now (Act c.in-Act.site c.in-Act.asks c.in-Act.args) at c.in-Act.is
     (same_request _ _ _ _ _ _ _ _ _ _ request acted.1)
     in
-    lead_fits_after c.args.pair.now c.args.m.now c.act_on-stepped.new.m c.args.w.now c.act_on-stepped.new.w acted.0 _ _ c.act_on-stepped.result c.classed-pair.ensures.sites.valid c.requires.fits tries
+    lead_fits_after c.args.pair.now c.args.m.now c.act_on-stepped.new.m c.args.w.now c.act_on-stepped.new.w acted.0 _ _ c.act_on-stepped.result c.classed-pair.ensures.sites c.requires.fits tries
 
 pub returns-in-Some-get-clause-live : goal.returns-in-Some-get-clause-live
 returns-in-Some-get-clause-live g c =

@@ -16,62 +16,56 @@ use Rattle.machine.proofs.Trying.{was_quiet}
 use Rattle.machine.proofs.Standing.{found_at, small_place, op_here, heard_here, args_within, source_within, copied_within, trail_tries, trail_fits_after}
 use Rattle.machine.proofs.trailing.trail_step.Goals as goal
 
-pub perform-stepped-requires-clause-registers : goal.perform-stepped-requires-clause-registers
-perform-stepped-requires-clause-registers g c =
+pub perform-stepped-requires-clause-performed : goal.perform-stepped-requires-clause-performed
+perform-stepped-requires-clause-performed g c =
     let at = found_at Trail c.args.pair.now c.args.m.now _ c.in-Some.line.now _ c.m.view_is c.trailing_at.ensures (ap option_copied c.in-Some.is) in
-    let here = op_here Trail c.args.pair.now c.args.m.now c.classed-pair.ensures.sites.valid c.requires.fits c.in-Some.line.now (Copied c.in-Copied.mid) at c.in-Copied.is in
-    copied_within Trail c.args.pair.now c.args.m.now c.classed-pair.ensures.sites.valid c.requires.fits c.in-Copied.mid here
-
-pub perform-stepped-requires-clause-alone : goal.perform-stepped-requires-clause-alone
-perform-stepped-requires-clause-alone g c =
-    let at = found_at Trail c.args.pair.now c.args.m.now _ c.in-Some.line.now _ c.m.view_is c.trailing_at.ensures (ap option_copied c.in-Some.is) in
-    let here = op_here Trail c.args.pair.now c.args.m.now c.classed-pair.ensures.sites.valid c.requires.fits c.in-Some.line.now (Copied c.in-Copied.mid) at c.in-Copied.is in
-    here.alone
+    let here = op_here Trail c.args.pair.now c.args.m.now c.classed-pair.ensures.sites c.requires.fits c.in-Some.line.now (Copied c.in-Copied.mid) at c.in-Copied.is in
+    copied_within Trail c.args.pair.now c.args.m.now c.classed-pair.ensures.sites c.requires.fits c.in-Copied.mid here
 
 pub perform-stepped-requires-clause-place : goal.perform-stepped-requires-clause-place
 perform-stepped-requires-clause-place g c =
-    small_place Trail c.args.pair.now c.args.m.now c.classed-pair.ensures.sites.valid c.requires.fits
+    small_place Trail c.args.pair.now c.args.m.now c.classed-pair.ensures.sites c.requires.fits
 
 pub check_word-stepped-requires-clause-register : goal.check_word-stepped-requires-clause-register
 check_word-stepped-requires-clause-register g c =
     let at = found_at Trail c.args.pair.now c.args.m.now _ c.in-Some.line.now _ c.m.view_is c.trailing_at.ensures (ap option_copied c.in-Some.is) in
-    let here = op_here Trail c.args.pair.now c.args.m.now c.classed-pair.ensures.sites.valid c.requires.fits c.in-Some.line.now (Check c.in-Check.site c.in-Check.source) at c.in-Check.is in
-    source_within Trail c.args.pair.now c.args.m.now c.classed-pair.ensures.sites.valid c.requires.fits c.in-Check.source here
+    let here = op_here Trail c.args.pair.now c.args.m.now c.classed-pair.ensures.sites c.requires.fits c.in-Some.line.now (Check c.in-Check.site c.in-Check.source) at c.in-Check.is in
+    source_within Trail c.args.pair.now c.args.m.now c.classed-pair.ensures.sites c.requires.fits c.in-Check.source here
 
 pub check_word-stepped-requires-clause-place : goal.check_word-stepped-requires-clause-place
 check_word-stepped-requires-clause-place g c =
-    small_place Trail c.args.pair.now c.args.m.now c.classed-pair.ensures.sites.valid c.requires.fits
+    small_place Trail c.args.pair.now c.args.m.now c.classed-pair.ensures.sites c.requires.fits
 
 pub send_operands-stepped-requires-clause-few : goal.send_operands-stepped-requires-clause-few
 send_operands-stepped-requires-clause-few g c =
     let at = found_at Trail c.args.pair.now c.args.m.now _ c.in-Some.line.now _ c.m.view_is c.trailing_at.ensures (ap option_copied c.in-Some.is) in
-    let here = op_here Trail c.args.pair.now c.args.m.now c.classed-pair.ensures.sites.valid c.requires.fits c.in-Some.line.now (Ack c.in-Ack.site c.in-Ack.args) at c.in-Ack.is in
+    let here = op_here Trail c.args.pair.now c.args.m.now c.classed-pair.ensures.sites c.requires.fits c.in-Some.line.now (Ack c.in-Ack.site c.in-Ack.args) at c.in-Ack.is in
     here.few
 
 pub send_operands-stepped-requires-clause-registers : goal.send_operands-stepped-requires-clause-registers
 send_operands-stepped-requires-clause-registers g c =
     let at = found_at Trail c.args.pair.now c.args.m.now _ c.in-Some.line.now _ c.m.view_is c.trailing_at.ensures (ap option_copied c.in-Some.is) in
-    let here = op_here Trail c.args.pair.now c.args.m.now c.classed-pair.ensures.sites.valid c.requires.fits c.in-Some.line.now (Ack c.in-Ack.site c.in-Ack.args) at c.in-Ack.is in
-    args_within Trail c.args.pair.now c.args.m.now c.classed-pair.ensures.sites.valid c.requires.fits c.in-Ack.args here
+    let here = op_here Trail c.args.pair.now c.args.m.now c.classed-pair.ensures.sites c.requires.fits c.in-Some.line.now (Ack c.in-Ack.site c.in-Ack.args) at c.in-Ack.is in
+    args_within Trail c.args.pair.now c.args.m.now c.classed-pair.ensures.sites c.requires.fits c.in-Ack.args here
 
 pub send_operands-stepped-requires-clause-place : goal.send_operands-stepped-requires-clause-place
 send_operands-stepped-requires-clause-place g c =
-    small_place Trail c.args.pair.now c.args.m.now c.classed-pair.ensures.sites.valid c.requires.fits
+    small_place Trail c.args.pair.now c.args.m.now c.classed-pair.ensures.sites c.requires.fits
 
 pub register-requires : goal.register-requires
 register-requires g c =
     let at = found_at Trail c.args.pair.now c.args.m.now _ c.in-Some.line.now _ c.m.view_is c.trailing_at.ensures (ap option_copied c.in-Some.is) in
-    let here = op_here Trail c.args.pair.now c.args.m.now c.classed-pair.ensures.sites.valid c.requires.fits c.in-Some.line.now (End c.in-End.source) at c.in-End.is in
-    source_within Trail c.args.pair.now c.args.m.now c.classed-pair.ensures.sites.valid c.requires.fits c.in-End.source here
+    let here = op_here Trail c.args.pair.now c.args.m.now c.classed-pair.ensures.sites c.requires.fits c.in-Some.line.now (End c.in-End.source) at c.in-End.is in
+    source_within Trail c.args.pair.now c.args.m.now c.classed-pair.ensures.sites c.requires.fits c.in-End.source here
 
 pub unreachable-requires-in-Ask : goal.unreachable-requires-in-Ask
 unreachable-requires-in-Ask g c =
     let at = found_at Trail c.args.pair.now c.args.m.now _ c.in-Some.line.now _ c.m.view_is c.trailing_at.ensures (ap option_copied c.in-Some.is) in
     elim c.in-Ask.is [
-      | inl ask ↦ op_here Trail c.args.pair.now c.args.m.now c.classed-pair.ensures.sites.valid c.requires.fits c.in-Some.line.now (Ask ask.0 ask.1) at ask.2
+      | inl ask ↦ op_here Trail c.args.pair.now c.args.m.now c.classed-pair.ensures.sites c.requires.fits c.in-Some.line.now (Ask ask.0 ask.1) at ask.2
       | inr rest ↦ elim rest [
-        | inl await ↦ op_here Trail c.args.pair.now c.args.m.now c.classed-pair.ensures.sites.valid c.requires.fits c.in-Some.line.now (Await await.0 await.1) at await.2
-        | inr act ↦ op_here Trail c.args.pair.now c.args.m.now c.classed-pair.ensures.sites.valid c.requires.fits c.in-Some.line.now (Act act.0 act.1 act.2) at act.3
+        | inl await ↦ op_here Trail c.args.pair.now c.args.m.now c.classed-pair.ensures.sites c.requires.fits c.in-Some.line.now (Await await.0 await.1) at await.2
+        | inr act ↦ op_here Trail c.args.pair.now c.args.m.now c.classed-pair.ensures.sites c.requires.fits c.in-Some.line.now (Act act.0 act.1 act.2) at act.3
       ]
     ]
 
@@ -79,7 +73,7 @@ pub returns-in-Copied-clause-step : goal.returns-in-Copied-clause-step
 returns-in-Copied-clause-step g c w =
     let at = found_at Trail c.args.pair.now c.args.m.now _ c.in-Some.line.now _ c.m.view_is c.trailing_at.ensures (ap option_copied c.in-Some.is) in
     trail_tries c.args.pair.now c.args.m.now c.perform-stepped.new.m w w c.perform-stepped.result [] _ _ c.in-Some.line.now (Copied c.in-Copied.mid) at c.in-Copied.is
-    (was_quiet _ c.args.m.now c.perform-stepped.new.m w c.perform-stepped.result _ c.perform-stepped.ensures)
+    (was_quiet _ c.args.m.now c.perform-stepped.new.m w c.perform-stepped.result _ (c.perform-stepped.ensures.comes c.args.pair.now))
 
 pub returns-in-Copied-clause-fits : goal.returns-in-Copied-clause-fits
 returns-in-Copied-clause-fits g c =
@@ -88,9 +82,9 @@ returns-in-Copied-clause-fits g c =
     let link : Shown = record { sent = []; taken = []; gone = true; asks = 0; last = Nothing } in
     let tries =
     trail_tries c.args.pair.now c.args.m.now c.perform-stepped.new.m w w c.perform-stepped.result [] link link c.in-Some.line.now (Copied c.in-Copied.mid) at c.in-Copied.is
-    (was_quiet _ c.args.m.now c.perform-stepped.new.m w c.perform-stepped.result link c.perform-stepped.ensures)
+    (was_quiet _ c.args.m.now c.perform-stepped.new.m w c.perform-stepped.result link (c.perform-stepped.ensures.comes c.args.pair.now))
     in
-    trail_fits_after c.args.pair.now c.args.m.now c.perform-stepped.new.m w w [] link link c.perform-stepped.result c.classed-pair.ensures.sites.valid c.requires.fits tries
+    trail_fits_after c.args.pair.now c.args.m.now c.perform-stepped.new.m w w [] link link c.perform-stepped.result c.classed-pair.ensures.sites c.requires.fits tries
 
 pub returns-in-Check-clause-step : goal.returns-in-Check-clause-step
 returns-in-Check-clause-step g c w =
@@ -106,7 +100,7 @@ returns-in-Check-clause-fits g c =
     trail_tries c.args.pair.now c.args.m.now c.check_word-stepped.new.m w w c.check_word-stepped.result [] _ _ c.in-Some.line.now (Check c.in-Check.site c.in-Check.source) at c.in-Check.is
     (c.check_word-stepped.ensures.tries w)
     in
-    trail_fits_after c.args.pair.now c.args.m.now c.check_word-stepped.new.m w w [] _ _ c.check_word-stepped.result c.classed-pair.ensures.sites.valid c.requires.fits tries
+    trail_fits_after c.args.pair.now c.args.m.now c.check_word-stepped.new.m w w [] _ _ c.check_word-stepped.result c.classed-pair.ensures.sites c.requires.fits tries
 
 pub returns-in-Ack-clause-step : goal.returns-in-Ack-clause-step
 returns-in-Ack-clause-step g c w =
@@ -122,7 +116,7 @@ returns-in-Ack-clause-fits g c =
     trail_tries c.args.pair.now c.args.m.now c.send_operands-stepped.new.m w w c.send_operands-stepped.result [] _ _ c.in-Some.line.now (Ack c.in-Ack.site c.in-Ack.args) at c.in-Ack.is
     (c.send_operands-stepped.ensures.tries w)
     in
-    trail_fits_after c.args.pair.now c.args.m.now c.send_operands-stepped.new.m w w [] _ _ c.send_operands-stepped.result c.classed-pair.ensures.sites.valid c.requires.fits tries
+    trail_fits_after c.args.pair.now c.args.m.now c.send_operands-stepped.new.m w w [] _ _ c.send_operands-stepped.result c.classed-pair.ensures.sites c.requires.fits tries
 
 pub returns-in-End-clause-step : goal.returns-in-End-clause-step
 returns-in-End-clause-step g c w =
