@@ -7,3 +7,4 @@ pub mod ValidCode
 pub mod CodeMeaning
 pub mod Serving
 pub mod Clauses
+pub mod Growing

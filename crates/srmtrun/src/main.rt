@@ -9,6 +9,7 @@
 mod answer;
 mod first_form;
 mod lowering;
+mod pairing;
 mod reading;
 mod rest;
 mod still;

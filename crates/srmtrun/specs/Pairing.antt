@@ -1,0 +1,13 @@
+-- Words of the contracts of the parts that make a pair.
+use Rattle.std.specs.Prelude.{ℕ, List, [], ◌∷◌}
+use Rattle.srmt_base.specs.declared.word.Site.{Site}
+use Rattle.mid_code.specs.declared.version.Asks.{Asks}
+use Rattle.mid_code.specs.declared.version.VersionOp.{VersionOp}
+use Rattle.mid_code.specs.declared.version.VersionOp.TheVariants.{Ask, Await, Act, Check, Ack}
+
+-- the two sides of an exchange of one register that waits for the trailing side
+abbrev pub leading_exchange : Site → Asks → ℕ → List VersionOp
+leading_exchange site asks source = Ask site (source ∷ []) ∷ Await site (source ∷ []) ∷ Act site asks (source ∷ []) ∷ []
+
+abbrev pub trailing_exchange : Site → ℕ → List VersionOp
+trailing_exchange site source = Check site source ∷ Ack site (source ∷ []) ∷ []
