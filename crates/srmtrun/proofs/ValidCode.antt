@@ -1,6 +1,6 @@
 -- The middle code of a source of the first form is valid.
 use Rattle.std.proofs.Common.{◌≡◌, ℕ, ◌+◌, ◌-◌, ◌*◌, ◌≤◌, List, [], ◌∷◌, ◌++◌, length, take, get_or, Some, refl, sym, ap, subst, ◌∙◌, arith, append_assoc, length-append}
-use Rattle.std.specs.Prelude.{slice_get}
+use Rattle.std.specs.Prelude.{slice_get, sum_by}
 use Rattle.std.specs.List.{flat_map, AllByRecursion}
 use Rattle.std.proofs.Math.Seq.{get_or-append_seam}
 use Rattle.std.proofs.lemmas.List.Concat.{flat_map-cons}
@@ -11,6 +11,8 @@ use Rattle.mid_code.specs.declared.program.FunType.{FunType}
 use Rattle.mid_code.specs.declared.program.MidLine.{MidLine}
 use Rattle.mid_code.specs.declared.mid.Mid.TheVariants.{Const, Exit}
 use Rattle.mid_code.specs.Valid.{AreFit, IsFinal, IsValidType, IsValidStatic, IsValidFunction, IsValid}
+use Rattle.mid_code.specs.Classes.{site_count, all_sites}
+use Rattle.mid_code.specs.Pairs.{HasSites}
 use Rattle.mid_code.proofs.Fitting.{found_one}
 use Rattle.srmtrun.specs.declared.first_form.PutConstant.{PutConstant}
 use Rattle.srmtrun.specs.declared.first_form.FirstForm.{FirstForm}
@@ -69,3 +71,13 @@ program_valid bytes form is = record {
   binary_cells = omega arith;
   functions = All-from_recursion (IsValidFunction Types) (main_of form ∷ []) (main_valid form is.puts is.constants is.status, tt);
 }
+
+-- each statement takes a site, and so do the two ends of main
+site_count-code : (puts : List PutConstant) (rest : List MidLine) → site_count (flat_map put_code puts ++ rest) ≡ length puts + site_count rest
+site_count-code [] rest = omega arith
+site_count-code (p ∷ others) rest = ap (λ (x : List MidLine). site_count (x ++ rest)) (flat_map-cons put_code p others) ∙ omega (arith, site_count-code others rest)
+
+pub program_sites : (bytes : List ℕ) (form : FirstForm) → IsFirstForm bytes form → HasSites (program_of form)
+program_sites bytes form is =
+    let sum : all_sites (program_of form) ≡ 0 + site_count (code_of form) = refl in
+    record { valid = program_valid bytes form is; limit = omega (arith, is.puts, sum, site_count-code form.puts (tail_code form)) }
