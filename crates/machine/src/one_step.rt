@@ -20,7 +20,8 @@ pub struct OneStep {
     last: LastCall,
     row: [Word; 18],
     count: u8,
-    ghost small: { began ≤ 18 },
+    pub ghost places: { length row ≡ 18 },
+    pub ghost small: { began ≤ 18 },
     ghost untouched: { asks ≡ 0 → was_taken ≡ false },
     // Each word that was sent took one of the places that it began with.
     pub ghost used: { spare + count ≡ began },
@@ -67,6 +68,14 @@ impl OneStep {
         ensures { result.now ≡ sent_of self.now }
     {
         &self.row[..usize::from(self.count)]
+    }
+
+    /// The latest call of `room` or `take`, with its answer.
+    pub fn last(&self) -> LastCall
+        ensures { result ≡ last_of self.now }
+    {
+        let last = &self.last;
+        *last
     }
 
     // What the next `take` answers: a word is given once, and what is no word again.

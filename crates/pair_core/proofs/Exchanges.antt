@@ -132,6 +132,9 @@ module _ (program : MidProgram) (m : Machine) (stands : Stands program m) (q : R
   pub acks_few : length (acks_of q) ≤ 17
   acks_few = omega (arith, ap length g.acks)
 
+  pub checks_few : length (checks_of q) ≤ 17
+  checks_few = omega (arith, ap length g.checks)
+
   pub lead_ask_here : IsPresent Lead program (lead_side program m 0 [])
   lead_ask_here = (_, ask_op program m stands n q g)
 

@@ -13,5 +13,9 @@ pub mod Sounds
 pub mod Answering
 pub mod Measure
 pub mod Lowering
+pub mod Turning
+pub mod Acting
 pub mod Reaching
 pub mod Faults
+pub mod Counting
+pub mod Alternating

@@ -22,7 +22,7 @@ module _ (program : MidProgram) (input : List ℕ) (limits : Limits) (valid : Is
   lead_found s at Waits h goes = absurd (goes refl)
   lead_found s at (Meets meet left) h goes =
       let less = lead_lowers program input limits valid g.i g.lead s (sym g.is_lead ∙ at) meet g.lead_at (subst (λ w. CanMeet Lead program s w meet) g.is_world h.0) (lead_meets program input limits valid duo events g s at meet left h.0 h.1 h.2) in
-      let here : side_left program Lead (next_of Lead program s duo.world meet).outcome < side_left program Lead (Went s) = subst (λ w. side_left program Lead (next_of Lead program s w meet).outcome < side_left program Lead (Went s)) (sym g.is_world) less in
+      let here : side_left program Lead (next_of Lead program s duo.world meet).outcome < side_left program Lead (Went s) = subst (λ w. side_left program Lead (next_of Lead program s w meet).outcome < side_left program Lead (Went s)) (sym g.is_world) less.less in
       let now : side_left program Lead duo.lead ≡ side_left program Lead (Went s) = ap (side_left program Lead) at in
       more_left _ _ _ _ now here
     where
@@ -34,7 +34,7 @@ module _ (program : MidProgram) (input : List ℕ) (limits : Limits) (valid : Is
   trail_found s at Waits h goes = absurd (goes refl)
   trail_found s at (Meets meet left) h goes =
       let less = trail_lowers program input limits valid g.j g.trail s (sym g.is_trail ∙ at) meet (Quits g.lead) g.trail_at (can_trail program input limits valid duo events g s at meet left h.0 h.1 h.2) (trail_meets program input limits valid duo events g s at meet left h.0 h.1 h.2) in
-      let here : side_left program Trail (next_of Trail program s duo.world meet).outcome < side_left program Trail (Went s) = subst (λ o. side_left program Trail o < side_left program Trail (Went s)) (sym (alike program s duo.world g.trail.world meet).outcome) less in
+      let here : side_left program Trail (next_of Trail program s duo.world meet).outcome < side_left program Trail (Went s) = subst (λ o. side_left program Trail o < side_left program Trail (Went s)) (sym (alike program s duo.world g.trail.world meet).outcome) less.less in
       let now : side_left program Trail duo.trail ≡ side_left program Trail (Went s) = ap (side_left program Trail) at in
       more_left _ _ _ _ now here
     where
@@ -53,7 +53,7 @@ module _ (program : MidProgram) (input : List ℕ) (limits : Limits) (valid : Is
   good_lowers Lead fails s at goes = lead_turned fails s duo.lead refl at goes
   good_lowers Trail fails s at goes = trail_turned fails s duo.trail refl at goes
 
-good_reached : (program : MidProgram) (input : List ℕ) (limits : Limits) (duo : DuoState) (events : List Event) → HasSites program → Reached program input limits duo events → Good program input limits duo events
+pub good_reached : (program : MidProgram) (input : List ℕ) (limits : Limits) (duo : DuoState) (events : List Event) → HasSites program → Reached program input limits duo events → Good program input limits duo events
 good_reached program input limits duo events sites reached =
     subst₂ (λ d e. Good program input limits d e) (ap (λ x. x.duo) reached.1) (ap (λ x. x.events) reached.1) (good_scheduled program input limits sites.valid reached.0)
 

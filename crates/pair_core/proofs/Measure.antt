@@ -1,5 +1,5 @@
 -- Each counted step leaves less to go.
-use Rattle.std.proofs.Common.{◌≡◌, ℕ, zero, suc, ◌+◌, ◌-◌, ◌*◌, ◌<◌, Bool, false, List, [], ◌∷◌, ◌++◌, length, Option, Some, None, slice_get, option_and_then, refl, sym, ap, ◌∙◌, subst, subst₂, arith, length-append, append_assoc}
+use Rattle.std.proofs.Common.{◌≡◌, ℕ, zero, suc, ◌+◌, ◌-◌, ◌*◌, ◌<◌, ◌≤◌, Bool, false, List, [], ◌∷◌, ◌++◌, length, Option, Some, None, slice_get, option_and_then, refl, sym, ap, ◌∙◌, subst, subst₂, arith, length-append, append_assoc}
 use Rattle.std.proofs.lemmas.Option.{slice_get_within}
 use Rattle.srmt_base.specs.declared.limits.Limits.{Limits}
 use Rattle.srmt_base.specs.declared.side.Side.{Side}
@@ -26,7 +26,7 @@ use Rattle.pair_core.specs.Duo.{DuoState}
 use Rattle.pair_core.specs.Laws.{end_as}
 use Rattle.pair_core.proofs.Groups.{Stands, next_line, group_place, lead_side, trail_side, never_dies, never_lost}
 use Rattle.pair_core.proofs.Steps.{gave, IsPresent, lead_goes, trail_goes, lead_runs_takes, trail_runs_takes, lead_runs_here, trail_runs_here, runs_function, lead_runs_place, trail_runs_place}
-use Rattle.pair_core.proofs.Exchanges.{acks_few, checks_some, lead_asks, lead_asks_takes, lead_hears_last, lead_hears_more, lead_hears_takes, lead_acts_back, lead_acts_over, lead_acts_takes, lead_fails, trail_checks, trail_checks_takes, trail_closed, trail_acks_back, trail_acks_over, trail_acks_takes, trail_ends, trail_ends_takes, lead_ask_here, lead_await_here, lead_act_here, trail_check_here, trail_ack_here, trail_end_here, back_function, lead_back_place, trail_back_place}
+use Rattle.pair_core.proofs.Exchanges.{acks_few, checks_few, none_answered, checks_some, lead_asks, lead_asks_takes, lead_hears_last, lead_hears_more, lead_hears_takes, lead_acts_back, lead_acts_over, lead_acts_takes, lead_fails, trail_checks, trail_checks_takes, trail_closed, trail_acks_back, trail_acks_over, trail_acks_takes, trail_ends, trail_ends_takes, lead_ask_here, lead_await_here, lead_act_here, trail_check_here, trail_ack_here, trail_end_here, back_function, lead_back_place, trail_back_place}
 use Rattle.pair_core.proofs.Ideals.{next_asks, stands_point, stands_owed}
 use Rattle.pair_core.proofs.Lead.{LeadAt, LeadStarts, LeadAwaits, LeadActs, LeadEnded, LeadFailed, LeadMeets, next_echo}
 use Rattle.pair_core.proofs.Trail.{TrailAt, TrailStarts, TrailChecks, TrailAcks, TrailEnding, TrailEnded, TrailGone, TrailMeets, next_word}
@@ -78,8 +78,13 @@ module _ (program : MidProgram) (side : Side) (s : SideState) (here : IsPresent 
   pub lower_over : 0 < side_left program side (Went s)
   lower_over = less_over (version_long (versions_of side program) s.machine.top.function) s.machine.top.place (length s.heard) within few
 
-abbrev Lower : MidProgram → Side → SideState → WorldState → Meet → Type 0
-Lower program side s w meet = side_left program side (next_of side program s w meet).outcome < side_left program side (Went s)
+-- a step leaves less to go, and sends few words
+pub record LowerBy (program : MidProgram) (side : Side) (s : SideState) (gives : StepGives) : Type 0 where
+  pub less : side_left program side gives.outcome < side_left program side (Went s)
+  pub few : length gives.sent ≤ 18
+
+abbrev pub Lower : MidProgram → Side → SideState → WorldState → Meet → Type 0
+Lower program side s w meet = LowerBy program side s (next_of side program s w meet)
 
 -- a step that takes no word and writes nothing meets nothing
 only_plain : (taking : Bool) (count : ℕ) (meet : Meet) → taking ≡ false → count ≡ 0 → MeetsBy taking count meet → meet ≡ Plain
@@ -88,43 +93,43 @@ only_plain taking count (Got word) not_taking none can = absurd (cc)
 only_plain taking count Closed not_taking none can = absurd (cc)
 only_plain taking count (Failed written) not_taking none can = absurd (omega (arith, can.1))
 
-by_law : (program : MidProgram) (side : Side) (s : SideState) (w : WorldState) (meet : Meet) (gives : StepGives) → next_of side program s w meet ≡ gives → side_left program side gives.outcome < side_left program side (Went s) → Lower program side s w meet
-by_law program side s w meet gives law less = subst (λ g. side_left program side g.outcome < side_left program side (Went s)) (sym law) less
+by_law : (program : MidProgram) (side : Side) (s : SideState) (w : WorldState) (meet : Meet) (gives : StepGives) → next_of side program s w meet ≡ gives → length gives.sent ≤ 18 → side_left program side gives.outcome < side_left program side (Went s) → Lower program side s w meet
+by_law program side s w meet gives law few less = subst (LowerBy program side s) (sym law) (record { less = less; few = few })
 
-by_plain : (program : MidProgram) (side : Side) (s : SideState) (w : WorldState) (meet : Meet) (gives : StepGives) → takes_at (side_op side program s) ≡ false → next_of side program s w Plain ≡ gives → length gives.events ≡ 0 → CanMeet side program s w meet → side_left program side gives.outcome < side_left program side (Went s) → Lower program side s w meet
-by_plain program side s w meet gives not_taking law none can less =
+by_plain : (program : MidProgram) (side : Side) (s : SideState) (w : WorldState) (meet : Meet) (gives : StepGives) → takes_at (side_op side program s) ≡ false → next_of side program s w Plain ≡ gives → length gives.events ≡ 0 → CanMeet side program s w meet → length gives.sent ≤ 18 → side_left program side gives.outcome < side_left program side (Went s) → Lower program side s w meet
+by_plain program side s w meet gives not_taking law none can few less =
     let count : length (next_of side program s w Plain).events ≡ 0 = ap (λ g. length g.events) law ∙ none in
     let plain : meet ≡ Plain = only_plain (takes_at (side_op side program s)) (length (next_of side program s w Plain).events) meet not_taking count can in
-    subst (λ x. Lower program side s w x) (sym plain) (by_law program side s w Plain gives law less)
+    subst (λ x. Lower program side s w x) (sym plain) (by_law program side s w Plain gives law few less)
 
 -- the steps of a group
 module _ (program : MidProgram) (m : Machine) (stands : Stands program m) (w : WorldState) where
   lead_start : (x : Wants) → wants program m ≡ x → (meet : Meet) → CanMeet Lead program (lead_side program m 0 []) w meet → Lower program Lead (lead_side program m 0 []) w meet
   lead_start (Runs next) h meet can =
       let n = next_line program m stands in
-      by_plain program Lead (lead_side program m 0 []) w meet (gave (Went (lead_side program next 0 [])) [] w []) (lead_runs_takes program m stands n next h) (lead_goes program m stands n next w h) refl can
+      by_plain program Lead (lead_side program m 0 []) w meet (gave (Went (lead_side program next 0 [])) [] w []) (lead_runs_takes program m stands n next h) (lead_goes program m stands n next w h) refl can (omega arith)
       (lower_on program Lead (lead_side program m 0 []) (lead_runs_here program m stands n next h) (omega arith) (lead_side program next 0 []) (runs_function program m stands n next h) (omega (arith, lead_runs_place program m stands n next h)))
   lead_start (Dies trap line) h meet can = absurd (never_dies program m stands (next_line program m stands) trap line h)
   lead_start Lost h meet can = absurd (never_lost program m stands (next_line program m stands) h)
   lead_start (Requests q) h meet can =
-      by_plain program Lead (lead_side program m 0 []) w meet (gave (Went (lead_side program m 1 [])) (checks_of q) w []) (lead_asks_takes program m stands q h) (lead_asks program m stands q h w) refl can
+      by_plain program Lead (lead_side program m 0 []) w meet (gave (Went (lead_side program m 1 [])) (checks_of q) w []) (lead_asks_takes program m stands q h) (lead_asks program m stands q h w) refl can (omega (arith, checks_few program m stands q h))
       (lower_on program Lead (lead_side program m 0 []) (lead_ask_here program m stands q h) (omega arith) (lead_side program m 1 []) refl (omega arith))
 
   trail_check : (q : Request) → (h : wants program m ≡ Requests q) → (done : List ℕ) (x : ℕ) (rest : List ℕ) → checks_of q ≡ done ++ x ∷ rest → (meet : Meet) → CanMeet Trail program (trail_side program m (length done)) w meet → ((word : ℕ) → meet ≡ Got word → word ≡ x) → Lower program Trail (trail_side program m (length done)) w meet
   trail_check q h done x rest checks Plain can right = let no = trail_checks_takes program m stands q h done x rest checks in absurd (cc)
   trail_check q h done x rest checks (Failed written) can right = let no = trail_checks_takes program m stands q h done x rest checks in let yes = can.0 in absurd (cc)
   trail_check q h done x rest checks Closed can right =
-      by_law program Trail (trail_side program m (length done)) w Closed (gave (Ended PeerEnded) [] w []) (trail_closed program m stands q h w done x rest checks)
+      by_law program Trail (trail_side program m (length done)) w Closed (gave (Ended PeerEnded) [] w []) (trail_closed program m stands q h w done x rest checks) (omega arith)
       (lower_over program Trail (trail_side program m (length done)) (trail_check_here program m stands q h done x rest checks) (omega arith))
   trail_check q h done x rest checks (Got word) can right =
       subst (λ y. Lower program Trail (trail_side program m (length done)) w (Got y)) (sym (right word refl))
-      (by_law program Trail (trail_side program m (length done)) w (Got x) (gave (Went (trail_side program m (suc (length done)))) [] w []) (trail_checks program m stands q h w done x rest checks)
+      (by_law program Trail (trail_side program m (length done)) w (Got x) (gave (Went (trail_side program m (suc (length done)))) [] w []) (trail_checks program m stands q h w done x rest checks) (omega arith)
       (lower_on program Trail (trail_side program m (length done)) (trail_check_here program m stands q h done x rest checks) (omega arith) (trail_side program m (suc (length done))) refl (omega arith)))
 
   trail_start : (x : Wants) → wants program m ≡ x → (meet : Meet) → CanMeet Trail program (trail_side program m 0) w meet → ((q : Request) (y : ℕ) (rest : List ℕ) (word : ℕ) → wants program m ≡ Requests q → checks_of q ≡ y ∷ rest → meet ≡ Got word → word ≡ y) → Lower program Trail (trail_side program m 0) w meet
   trail_start (Runs next) h meet can right =
       let n = next_line program m stands in
-      by_plain program Trail (trail_side program m 0) w meet (gave (Went (trail_side program next 0)) [] w []) (trail_runs_takes program m stands n next h) (trail_goes program m stands n next w h) refl can
+      by_plain program Trail (trail_side program m 0) w meet (gave (Went (trail_side program next 0)) [] w []) (trail_runs_takes program m stands n next h) (trail_goes program m stands n next w h) refl can (omega arith)
       (lower_on program Trail (trail_side program m 0) (trail_runs_here program m stands n next h) (omega arith) (trail_side program next 0) (runs_function program m stands n next h) (omega (arith, trail_runs_place program m stands n next h)))
   trail_start (Dies trap line) h meet can right = absurd (never_dies program m stands (next_line program m stands) trap line h)
   trail_start Lost h meet can right = absurd (never_lost program m stands (next_line program m stands) h)
@@ -136,13 +141,13 @@ module _ (program : MidProgram) (m : Machine) (stands : Stands program m) (w : W
     lead_hear : (heard : List ℕ) (x : ℕ) (rest : List ℕ) → acks_of q ≡ heard ++ x ∷ rest → Lower program Lead (lead_side program m 1 heard) w (Got x)
     lead_hear heard x [] acks =
         let few : length heard < 19 = omega (arith, acks_few program m stands q h, ap length acks, length-append heard (x ∷ [])) in
-        by_law program Lead (lead_side program m 1 heard) w (Got x) (gave (Went (lead_side program m 2 [])) [] w []) (lead_hears_last program m stands q h w heard x acks)
+        by_law program Lead (lead_side program m 1 heard) w (Got x) (gave (Went (lead_side program m 2 [])) [] w []) (lead_hears_last program m stands q h w heard x acks) (omega arith)
         (lower_on program Lead (lead_side program m 1 heard) (lead_await_here program m stands q h heard) few (lead_side program m 2 []) refl (omega arith))
     lead_hear heard x (y ∷ rest) acks =
         let few : length (heard ++ x ∷ []) < 19 = omega (arith, acks_few program m stands q h, ap length acks, length-append heard (x ∷ y ∷ rest), length-append heard (x ∷ [])) in
         let more : length heard < length (heard ++ x ∷ []) = omega (arith, length-append heard (x ∷ [])) in
         let few_now : length heard < 19 = omega arith in
-        by_law program Lead (lead_side program m 1 heard) w (Got x) (gave (Went (lead_side program m 1 (heard ++ x ∷ []))) [] w []) (lead_hears_more program m stands q h w heard x y rest acks)
+        by_law program Lead (lead_side program m 1 heard) w (Got x) (gave (Went (lead_side program m 1 (heard ++ x ∷ []))) [] w []) (lead_hears_more program m stands q h w heard x y rest acks) (omega arith)
         (less_heard (version_long (versions_of Lead program) m.top.function) (group_place leading_ops program m + 1) (length heard) (length (heard ++ x ∷ []))
         (within program Lead (lead_side program m 1 heard) (lead_await_here program m stands q h heard) few_now) few more)
 
@@ -154,31 +159,31 @@ module _ (program : MidProgram) (m : Machine) (stands : Stands program m) (w : W
 
     lead_acts_on : (x : Resumed) → resume program m (ask w q).response ≡ x → Lower program Lead (lead_side program m 2 []) w Plain
     lead_acts_on (Back next) back =
-        by_law program Lead (lead_side program m 2 []) w Plain _ (lead_acts_back program m stands q h w next back)
+        by_law program Lead (lead_side program m 2 []) w Plain _ (lead_acts_back program m stands q h w next back) (omega (arith, ap length (none_answered program m stands q h (ask w q).response)))
         (lower_on program Lead (lead_side program m 2 []) (lead_act_here program m stands q h) (omega arith) (lead_side program next 0 []) (back_function program m stands q h _ next back) (omega (arith, lead_back_place program m stands q h _ next back)))
     lead_acts_on (Over end) over =
-        by_law program Lead (lead_side program m 2 []) w Plain _ (lead_acts_over program m stands q h w end over)
+        by_law program Lead (lead_side program m 2 []) w Plain _ (lead_acts_over program m stands q h w end over) (omega (arith, ap length (none_answered program m stands q h (ask w q).response)))
         (lower_over program Lead (lead_side program m 2 []) (lead_act_here program m stands q h) (omega arith))
 
     lead_act : (meet : Meet) → CanMeet Lead program (lead_side program m 2 []) w meet → Lower program Lead (lead_side program m 2 []) w meet
     lead_act Plain can = lead_acts_on (resume program m (ask w q).response) refl
     lead_act (Failed written) can =
-        by_law program Lead (lead_side program m 2 []) w (Failed written) _ (lead_fails program m stands q h w written)
+        by_law program Lead (lead_side program m 2 []) w (Failed written) _ (lead_fails program m stands q h w written) (omega arith)
         (lower_over program Lead (lead_side program m 2 []) (lead_act_here program m stands q h) (omega arith))
     lead_act (Got word) can = let no = lead_acts_takes program m stands q h in absurd (cc)
     lead_act Closed can = let no = lead_acts_takes program m stands q h in absurd (cc)
 
     trail_acks_on : (r : Response) (x : Resumed) → resume program m r ≡ x → (meet : Meet) → CanMeet Trail program (trail_side program m (length (checks_of q))) w meet → Lower program Trail (trail_side program m (length (checks_of q))) w meet
     trail_acks_on r (Back next) back meet can =
-        by_plain program Trail (trail_side program m (length (checks_of q))) w meet _ (trail_acks_takes program m stands q h) (trail_acks_back program m stands q h w r next back) refl can
+        by_plain program Trail (trail_side program m (length (checks_of q))) w meet _ (trail_acks_takes program m stands q h) (trail_acks_back program m stands q h w r next back) refl can (omega (arith, acks_few program m stands q h))
         (lower_on program Trail (trail_side program m (length (checks_of q))) (trail_ack_here program m stands q h) (omega arith) (trail_side program next 0) (back_function program m stands q h r next back) (omega (arith, trail_back_place program m stands q h r next back)))
     trail_acks_on r (Over end) over meet can =
-        by_plain program Trail (trail_side program m (length (checks_of q))) w meet _ (trail_acks_takes program m stands q h) (trail_acks_over program m stands q h w r end over) refl can
+        by_plain program Trail (trail_side program m (length (checks_of q))) w meet _ (trail_acks_takes program m stands q h) (trail_acks_over program m stands q h w r end over) refl can (omega (arith, acks_few program m stands q h))
         (lower_on program Trail (trail_side program m (length (checks_of q))) (trail_ack_here program m stands q h) (omega arith) (trail_side program m (suc (length (checks_of q)))) refl (omega arith))
 
     trail_end : (r : Response) (end : SourceEnd) → resume program m r ≡ Over end → (meet : Meet) → CanMeet Trail program (trail_side program m (suc (length (checks_of q)))) w meet → Lower program Trail (trail_side program m (suc (length (checks_of q)))) w meet
     trail_end r end over meet can =
-        by_plain program Trail (trail_side program m (suc (length (checks_of q)))) w meet _ (trail_ends_takes program m stands q h r end over) (trail_ends program m stands q h w r end over) refl can
+        by_plain program Trail (trail_side program m (suc (length (checks_of q)))) w meet _ (trail_ends_takes program m stands q h r end over) (trail_ends program m stands q h w r end over) refl can (omega arith)
         (lower_over program Trail (trail_side program m (suc (length (checks_of q)))) (trail_end_here program m stands q h r end over) (omega arith))
 
 -- the steps of a side beside the ideal run

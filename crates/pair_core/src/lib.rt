@@ -5,8 +5,15 @@
 //! that holds over every order. It stands on the steps of `machine`.
 #![tactic(auto)]
 
+mod duo;
+mod in_turn;
+mod judging;
 mod laws;
 mod verdict;
+mod way;
 
+pub use duo::Duo;
+pub use in_turn::alternate;
+pub use judging::verdict_of;
 pub use laws::over_every_schedule;
 pub use verdict::{Ran, Report, Verdict};
