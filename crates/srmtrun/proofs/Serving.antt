@@ -66,7 +66,7 @@ module _ (told : Option (List ℕ)) (before after : Option (List Event)) (read_f
   run_serves how limits program form is code (Ok end) ok err =
       let one = one_end program (started program) ok.0 (events_of form) end (end_of form) ok.1 (code.means [] limits) in
       (how, (form, record { bytes = bytes; told_bytes = same; within = within; is_form = is }, one.1, ok.2 ∙ ap (λ es. option_map (λ told. told ++ es) before) one.0))
-  run_serves how limits program form is code (Err WriteFault) ok err = (how, (err.0, (form, record { bytes = bytes; told_bytes = same; within = within; is_form = is }, err.1 (events_of form) (end_of form) (code.means [] limits))))
+  run_serves how limits program form is code (Err WriteFault) ok err = (how, err.0, (form, record { bytes = bytes; told_bytes = same; within = within; is_form = is }, err.1 (events_of form) (end_of form) (code.means [] limits)))
   run_serves how limits program form is code (Err OutOfMemory) ok err = err
   run_serves how limits program form is code (Err (Alone end)) ok err = absurd err
   run_serves how limits program form is code (Err (RanBoth ran)) ok err = absurd err
