@@ -61,10 +61,9 @@ module _ (told : Option (List ℕ)) (before after : Option (List Event)) (read_f
   refused_serves Form none = (IfSome_then told same (λ t e. (subst (λ (b : List ℕ). length b ≤ 1048576) (sym e) within, λ form is. none refl form (subst (λ (b : List ℕ). IsFirstForm b form) e is))), refl)
   refused_serves Memory none = refl
 
-<<<<<<< HEAD
   pub run_serves : mode ≡ Single → (limits : Limits) (program : MidProgram) (form : FirstForm) → IsFirstForm bytes form → Implements program form → (r : Result SourceEnd RunAnswer) → IfOk r (λ end. (events : List Event) × Middle program [] limits events end × Appends before after events) → IfErr r (StopsRun program limits before after write_failed) → Serves mode told before after read_failed write_failed (answer_from r)
   run_serves how limits program form is code (Ok end) ok err =
-      let one = one_end program (started program) ok.0 (events_of form) end (end_of form) ok.1 (code.means [] limits) in
+      let one = one_end program (started program [] limits) ok.0 (events_of form) end (end_of form) ok.1 (code.means [] limits) in
       (how, (form, record { bytes = bytes; told_bytes = same; within = within; is_form = is }, one.1, ok.2 ∙ ap (λ es. option_map (λ told. told ++ es) before) one.0))
   run_serves how limits program form is code (Err WriteFault) ok err = (how, err.0, (form, record { bytes = bytes; told_bytes = same; within = within; is_form = is }, err.1 (events_of form) (end_of form) (code.means [] limits)))
   run_serves how limits program form is code (Err OutOfMemory) ok err = err
@@ -88,7 +87,7 @@ both_runs program form before after write_failed ran code r = record {
     means = code.means [] LIMITS
 
     whole_run : (words : List ℕ) × IsIdeal program [] LIMITS words (events_of form) (end_of form)
-    whole_run = ideal_whole program [] LIMITS (events_of form) (end_of form) means
+    whole_run = ideal_whole program code.sites [] LIMITS (events_of form) (end_of form) means
 
     first : IsPrefix r.events (events_of form)
     first = first_events program [] LIMITS code.sites r.events (events_of form) whole_run.0 (end_of form) r.follows.first whole_run.1
@@ -99,25 +98,12 @@ both_runs program form before after write_failed ran code r = record {
         let front : take (length r.events) (events_of form) ≡ r.events = ap (take (length r.events)) first.1 ∙ take-append_seam r.events first.0 in
         inl (fault, r.failed fault, (length r.events, r.written ∙ ap (λ es. option_map (λ told. told ++ es) before) (sym front)))
     by_end (inr (end, words, ideal, verdict)) =
-        let one = one_end program (started program) r.events (events_of form) end (end_of form) (ideal_sound program [] LIMITS words r.events end ideal) means in
+        let one = one_end program (started program [] LIMITS) r.events (events_of form) end (end_of form) (ideal_sound program code.sites [] LIMITS words r.events end ideal) means in
         inr (one.0, verdict ∙ ap verdict_as one.1)
 
 module _ (told : Option (List ℕ)) (before after : Option (List Event)) (read_failed write_failed : Type 0) (bytes : List ℕ) (same : IfSome told (λ t. t ≡ bytes)) (within : length bytes ≤ 1048576) where
   pub sides_serve : (program : MidProgram) (form : FirstForm) → IsFirstForm bytes form → Implements program form → (ran : Ran) → RanBySides program LIMITS before after write_failed ran → Serves Alternate told before after read_failed write_failed (RanBoth ran)
   sides_serve program form is code ran r = (refl, (form, record { bytes = bytes; told_bytes = same; within = within; is_form = is }, both_runs program form before after write_failed ran code r))
-=======
-  pub run_serves : (limits : Limits) (program : MidProgram) (form : FirstForm) → IsFirstForm bytes form → Implements program form → (r : Result SourceEnd RunAnswer) → IfOk r (λ end. (events : List Event) × Middle program [] limits events end × Appends before after events) → IfErr r (StopsRun program limits before after write_failed) → Serves told before after read_failed write_failed (answer_from r)
-  run_serves limits program form is code (Ok end) ok err =
-      let one = one_end program (started program [] limits) ok.0 (events_of form) end (end_of form) ok.1 (code.means [] limits) in
-      (form, record { bytes = bytes; told_bytes = same; within = within; is_form = is }, one.1, ok.2 ∙ ap (λ es. option_map (λ told. told ++ es) before) one.0)
-  run_serves limits program form is code (Err WriteFault) ok err = (err.0, (form, record { bytes = bytes; told_bytes = same; within = within; is_form = is }, err.1 (events_of form) (end_of form) (code.means [] limits)))
-  run_serves limits program form is code (Err OutOfMemory) ok err = err
-  run_serves limits program form is code (Err (Alone end)) ok err = absurd err
-  run_serves limits program form is code (Err Usage) ok err = absurd err
-  run_serves limits program form is code (Err ReadFault) ok err = absurd err
-  run_serves limits program form is code (Err TooLong) ok err = absurd err
-  run_serves limits program form is code (Err (Refused cause)) ok err = absurd err
->>>>>>> fca1e2c46adc531ddd5dfc131fb6dce91387a860
 
 pub refused_asks : (e : FormRefusal) (before after : Option (List (List ℕ))) (name : List ℕ) → Appends before after (name ∷ []) → AsksFor (refused e) before after name
 refused_asks Form before after name asked = asked
