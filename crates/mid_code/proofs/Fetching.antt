@@ -88,7 +88,7 @@ take_take xs (suc m) zero below = absurd (omega arith)
 take_take [] (suc m) (suc n) below = refl
 take_take (x ∷ xs) (suc m) (suc n) below = ap (λ ys. x ∷ ys) (take_take xs m n (omega arith))
 
-get_taken : {X : Type 0} (xs : List X) (k n : ℕ) → k < n → slice_get (take n xs) k ≡ slice_get xs k
+pub get_taken : {X : Type 0} (xs : List X) (k n : ℕ) → k < n → slice_get (take n xs) k ≡ slice_get xs k
 get_taken xs k zero within = absurd (omega arith)
 get_taken [] k (suc n) within = refl
 get_taken (x ∷ xs) zero (suc n) within = refl

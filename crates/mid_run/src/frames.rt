@@ -28,7 +28,11 @@ impl Budgets {
     fn of(self, protected: bool) -> Left
         ensures { result ≡ left_at protected self }
     {
-        if protected { self.protected } else { self.binary }
+        if protected {
+            self.protected
+        } else {
+            self.binary
+        }
     }
 
     /// The budgets with another one of a part.
@@ -256,7 +260,14 @@ impl Frames {
 
     /// Begins a function above its caller, which has passed the call. It has `count` registers, and
     /// those of the caller that are named go into its first ones.
-    pub(crate) fn enter(&mut self, protected: bool, function: u16, count: u16, into: u16, args: &[u16])
+    pub(crate) fn enter(
+        &mut self,
+        protected: bool,
+        function: u16,
+        count: u16,
+        into: u16,
+        args: &[u16],
+    )
         requires place { self.old.machine.top.place + 1 < 2 ^ 32 }
         requires turns { 1 ≤ (budget_of (part_if protected) self.old.machine).turns }
         requires depth { 1 ≤ (budget_of (part_if protected) self.old.machine).depth }

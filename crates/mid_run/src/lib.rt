@@ -13,3 +13,6 @@ mod run;
 mod statics;
 
 pub use run::MidRun;
+
+#[cfg(test)]
+mod tests;

@@ -10,7 +10,6 @@ use srmt_base::Trap;
 /// The first number of an object of the binary part.
 const BINARY: u32 = 134_217_728;
 
-
 /// The value of a cell of either part.
 pub(crate) fn load(protected: &Store, binary: &Store, pointer: u64) -> Result<u64, Trap>
     ensures value { result ≡ read_of (both protected.now binary.now) pointer }
@@ -64,7 +63,11 @@ pub(crate) fn begin(store: &mut Store, protected: bool, cells: u16) -> Result<u3
     ensures err { OnErr result (store.new ≡ store.old) }
     ensures few { OnOk result (length store.new.live ≤ store.new.budget) }
 {
-    let last = if protected { BINARY - 1 } else { 2 * BINARY - 1 };
+    let last = if protected {
+        BINARY - 1
+    } else {
+        2 * BINARY - 1
+    };
     let fresh = store.fresh();
     if u64::from(last) < fresh {
         return Err(Trap::Store);

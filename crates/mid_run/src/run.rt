@@ -79,7 +79,12 @@ impl MidRun {
         let count = main.kinds.len() as u16;
         let frames = Frames::start(alloc, program.main, count, budgets, ROOM)?;
         let protected = begin_statics(alloc, program.main_statics.as_slice(), limits.cells, true)?;
-        let binary = begin_statics(alloc, program.binary_statics.as_slice(), limits.cells, false)?;
+        let binary = begin_statics(
+            alloc,
+            program.binary_statics.as_slice(),
+            limits.cells,
+            false,
+        )?;
         Ok(MidRun::at_start(frames, protected, binary, input))
     }
 

@@ -1,12 +1,11 @@
 -- One event of each side, from the fields of the core and what the code did with them.
-use Rattle.std.proofs.Common.{◌≡◌, ◌≢◌, ℕ, ◌+◌, ◌-◌, ◌≤◌, ◌⊎◌, inl, inr, Bool, true, false, List, [], length, min, Option, Some, None, refl, sym, ap, ◌∙◌, subst, arith}
+use Rattle.std.proofs.Common.{◌≡◌, ℕ, ◌+◌, ◌-◌, ◌≤◌, ◌⊎◌, inl, inr, Bool, true, false, List, [], length, min, Option, Some, None, refl, sym, ap, ◌∙◌, subst, arith}
 use Rattle.std.specs.Option.{is_some}
 use Rattle.srmt_base.specs.declared.event.Event.{Event}
 use Rattle.srmt_base.specs.declared.side.Side.TheVariants.{Lead, Trail}
 use Rattle.mid_code.specs.declared.program.MidProgram.{MidProgram}
 use Rattle.world.specs.World.{WorldState}
 use Rattle.machine.specs.declared.link_call.Taken.{Taken}
-use Rattle.machine.specs.declared.link_call.LastCall.{LastCall}
 use Rattle.machine.specs.declared.link_call.LastCall.TheVariants.{Nothing}
 use Rattle.machine.specs.declared.one_step.OneStep.{OneStep}
 use Rattle.machine.specs.declared.thread_end.ThreadEnd.{ThreadEnd}
@@ -17,7 +16,7 @@ use Rattle.machine.specs.OneStep.{made_of, sent_of, taken_of, gone_of, asks_of, 
 use Rattle.machine.specs.Side.{SideState, Outcome, Went, Ended}
 use Rattle.machine.specs.Tried.{Shown, shown, Tries}
 use Rattle.pair_core.specs.declared.duo.Duo.TheInside.{Inside}
-use Rattle.pair_core.specs.Duo.{DuoState, is_over, view_of, put_on, turn_of}
+use Rattle.pair_core.specs.Duo.{DuoState, is_over, put_on, turn_of}
 use Rattle.pair_core.specs.Turns.{offered, room_left, left_by, outcome_by, end_of_step, has_waited, Turns}
 use Rattle.pair_core.specs.View.{duo_of}
 use Rattle.pair_core.proofs.Turning.{LinkFacts, link_facts, sent_few, after_by, turned_by, waits_turn, made_turn}
@@ -143,7 +142,7 @@ module _ (program : MidProgram) (a : Inside) (before : DuoState) (is : duo_of a 
           let first_end = ap (λ x. record { lead = x; trail = outcome_by a.trail_over a.trail; world = w; words = put_on (is_over (outcome_by a.trail_over a.trail)) a.words (sent_of link); acks = left_by (last_of link) a.acks; lead_steps = a.lead_steps + 1; trail_steps = a.trail_steps; words_sent = a.words_sent + length (sent_of link); acks_sent = a.acks_sent }) o in
           let same_words : put_on (is_over (outcome_by a.trail_over a.trail)) a.words (sent_of link) ≡ words = ap (λ b. put_on b a.words (sent_of link)) (sym lead_peer) ∙ sym words_are in
           let state : after_by Lead outcome w (sent_of link) (left_by (last_of link) a.acks) (duo_of a) ≡ lead_state a end m w words acks count =
-              first_end ∙ ap (λ x. lead_state a end m w x (left_by (last_of link) a.acks) (length (sent_of link))) same_words ∙ ap (λ x. lead_state a end m w words x (length (sent_of link))) (sym acks_are) ∙ ap (lead_state a end m w words acks) (sym count_is) in
+          first_end ∙ ap (λ x. lead_state a end m w x (left_by (last_of link) a.acks) (length (sent_of link))) same_words ∙ ap (λ x. lead_state a end m w words x (length (sent_of link))) (sym acks_are) ∙ ap (lead_state a end m w words acks) (sym count_is) in
           (turn.0, ap (turn_of program Lead turn.0) (sym is) ∙ turn.1 ∙ ap (λ d. turned_by d events stepped) state)
 
       lead_steps_to : (t : Stepped) → stepped ≡ t → has_waited t ≡ false → Tries Lead program a.lead a.world t m w events (shows first) (shows link) →
@@ -151,12 +150,12 @@ module _ (program : MidProgram) (a : Inside) (before : DuoState) (is : duo_of a 
       lead_steps_to Made e went makes =
           let turn = made_turn Lead program (duo_of a) a.lead lead_went (shows first) (shows link) lead_facts of.none of.fresh of.quiet fits (Went m) w events makes in
           lead_done_by (Went m) (ap (λ x. outcome_by (end_of_step x) m) (sym e) ∙ ap (λ x. outcome_by x m) (sym end_is))
-              (turn.0, turn.1 ∙ ap (turned_by (after_by Lead (Went m) w (sent_of link) (left_by (last_of link) a.acks) (duo_of a)) events) (sym e))
+          (turn.0, turn.1 ∙ ap (turned_by (after_by Lead (Went m) w (sent_of link) (left_by (last_of link) a.acks) (duo_of a)) events) (sym e))
       lead_steps_to NotYet e went makes = absurd (cc)
       lead_steps_to (MadeLast last) e went makes =
           let turn = made_turn Lead program (duo_of a) a.lead lead_went (shows first) (shows link) lead_facts of.none of.fresh of.quiet fits (Ended last) w events makes in
           lead_done_by (Ended last) (ap (λ x. outcome_by (end_of_step x) m) (sym e) ∙ ap (λ x. outcome_by x m) (sym end_is))
-              (turn.0, turn.1 ∙ ap (turned_by (after_by Lead (Ended last) w (sent_of link) (left_by (last_of link) a.acks) (duo_of a)) events) (sym e))
+          (turn.0, turn.1 ∙ ap (turned_by (after_by Lead (Ended last) w (sent_of link) (left_by (last_of link) a.acks) (duo_of a)) events) (sym e))
 
       pub lead_done : has_waited stepped ≡ false → (fails : Option ℕ) × Turns program Lead fails before (lead_state a end m w words acks count) stepped events
       lead_done went = lead_steps_to stepped refl went tries
@@ -188,7 +187,7 @@ module _ (program : MidProgram) (a : Inside) (before : DuoState) (is : duo_of a 
           let first_end = ap (λ x. record { lead = outcome_by a.lead_over a.lead; trail = x; world = a.world; words = left_by (last_of link) a.words; acks = put_on (is_over (outcome_by a.lead_over a.lead)) a.acks (sent_of link); lead_steps = a.lead_steps; trail_steps = a.trail_steps + 1; words_sent = a.words_sent; acks_sent = a.acks_sent + length (sent_of link) }) o in
           let same_acks : put_on (is_over (outcome_by a.lead_over a.lead)) a.acks (sent_of link) ≡ acks = ap (λ b. put_on b a.acks (sent_of link)) (sym trail_peer) ∙ sym acks_are in
           let state : after_by Trail outcome a.world (sent_of link) (left_by (last_of link) a.words) (duo_of a) ≡ trail_state a end m words acks count =
-              first_end ∙ ap (λ x. trail_state a end m (left_by (last_of link) a.words) x (length (sent_of link))) same_acks ∙ ap (λ x. trail_state a end m x acks (length (sent_of link))) (sym words_are) ∙ ap (trail_state a end m words acks) (sym count_is) in
+          first_end ∙ ap (λ x. trail_state a end m (left_by (last_of link) a.words) x (length (sent_of link))) same_acks ∙ ap (λ x. trail_state a end m x acks (length (sent_of link))) (sym words_are) ∙ ap (trail_state a end m words acks) (sym count_is) in
           (turn.0, ap (turn_of program Trail turn.0) (sym is) ∙ turn.1 ∙ ap (λ d. turned_by d [] stepped) state)
 
       trail_steps_to : (t : Stepped) → stepped ≡ t → has_waited t ≡ false → Tries Trail program a.trail a.world t m a.world [] (shows first) (shows link) →
@@ -196,12 +195,12 @@ module _ (program : MidProgram) (a : Inside) (before : DuoState) (is : duo_of a 
       trail_steps_to Made e went makes =
           let turn = made_turn Trail program (duo_of a) a.trail trail_went (shows first) (shows link) trail_facts of.none of.fresh of.quiet fits (Went m) a.world [] makes in
           trail_done_by (Went m) (ap (λ x. outcome_by (end_of_step x) m) (sym e) ∙ ap (λ x. outcome_by x m) (sym end_is))
-              (turn.0, turn.1 ∙ ap (turned_by (after_by Trail (Went m) a.world (sent_of link) (left_by (last_of link) a.words) (duo_of a)) []) (sym e))
+          (turn.0, turn.1 ∙ ap (turned_by (after_by Trail (Went m) a.world (sent_of link) (left_by (last_of link) a.words) (duo_of a)) []) (sym e))
       trail_steps_to NotYet e went makes = absurd (cc)
       trail_steps_to (MadeLast last) e went makes =
           let turn = made_turn Trail program (duo_of a) a.trail trail_went (shows first) (shows link) trail_facts of.none of.fresh of.quiet fits (Ended last) a.world [] makes in
           trail_done_by (Ended last) (ap (λ x. outcome_by (end_of_step x) m) (sym e) ∙ ap (λ x. outcome_by x m) (sym end_is))
-              (turn.0, turn.1 ∙ ap (turned_by (after_by Trail (Ended last) a.world (sent_of link) (left_by (last_of link) a.words) (duo_of a)) []) (sym e))
+          (turn.0, turn.1 ∙ ap (turned_by (after_by Trail (Ended last) a.world (sent_of link) (left_by (last_of link) a.words) (duo_of a)) []) (sym e))
 
       pub trail_done : has_waited stepped ≡ false → (fails : Option ℕ) × Turns program Trail fails before (trail_state a end m words acks count) stepped []
       trail_done went = trail_steps_to stepped refl went tries

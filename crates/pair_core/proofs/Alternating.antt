@@ -1,5 +1,5 @@
 -- Both sides in turn come to their end.
-use Rattle.std.proofs.Common.{◌≡◌, ◌≢◌, ℕ, zero, suc, ◌+◌, ◌*◌, ◌<◌, ◌≤◌, ◌⊎◌, inl, inr, Bool, List, [], ◌++◌, Option, None, refl, sym, ap, ◌∙◌, subst, arith}
+use Rattle.std.proofs.Common.{◌≡◌, ◌≢◌, ℕ, ◌+◌, ◌*◌, ◌<◌, ◌≤◌, ◌⊎◌, inl, inr, List, ◌++◌, Option, None, refl, sym, ap, ◌∙◌, subst, arith}
 use Rattle.srmt_base.specs.declared.event.Event.{Event}
 use Rattle.srmt_base.specs.declared.limits.Limits.{Limits}
 use Rattle.srmt_base.specs.declared.side.Side.{Side}
@@ -9,20 +9,20 @@ use Rattle.mid_code.specs.declared.program.MidProgram.{MidProgram}
 use Rattle.mid_code.specs.Pairs.{HasSites}
 use Rattle.machine.specs.declared.thread_end.Stepped.{Stepped}
 use Rattle.machine.specs.declared.thread_end.Stepped.TheVariants.{Went as Made, NotYet, Ended as MadeLast}
-use Rattle.machine.specs.Side.{SideState, Outcome, Went, Ended}
-use Rattle.pair_core.specs.Fit.{IsOver}
+use Rattle.machine.specs.Side.{SideState, Outcome, Went, Ended, opening as opening_side}
+use Rattle.machine.proofs.Fitting.{fits_opening}
 use Rattle.pair_core.specs.Duo.{DuoState, view_of, Turned, turn_at, turn_of, Reached}
 use Rattle.pair_core.specs.Laws.{CanGo}
-use Rattle.pair_core.specs.Turns.{IsCountable, Turns}
+use Rattle.pair_core.specs.Turns.{DuoFits, IsCountable, Turns}
 use Rattle.pair_core.specs.declared.verdict.Ran.{Ran}
 use Rattle.pair_core.specs.Answer.{IsAnswer, FollowsIdeal}
-use Rattle.pair_core.specs.InTurn.{other_side, next_turn, BothOver, IsRan}
+use Rattle.pair_core.specs.InTurn.{other_side, next_turn, BothOver, IsRan, IsOpening}
 use Rattle.pair_core.proofs.Answering.{is_answer, follows_ideal}
 use Rattle.pair_core.proofs.Sounds.{sound_reached}
 use Rattle.pair_core.proofs.Measure.{duo_left}
 use Rattle.pair_core.proofs.Lowering.{reached_lowers}
 use Rattle.pair_core.proofs.Reaching.{reached_turn, turn_waits, waits_too}
-use Rattle.pair_core.proofs.Counting.{Counted, counted_reached}
+use Rattle.pair_core.proofs.Counting.{counted_reached}
 
 -- whether a side has ended or waits
 abbrev pub idle_by : Stepped → ℕ
@@ -159,3 +159,10 @@ rose_on before now a b c so_far first second step h =
       | inl old ↦ rose_before a b c second (so_far old)
       | inr new ↦ rose_after a b c first new
     ]
+
+pub opening_fits : (program : MidProgram) (duo : DuoState) → HasSites program → IsOpening program duo → DuoFits program duo
+opening_fits program duo sites opening =
+    subst (DuoFits program) (sym opening.2) (record { lead = fits_opening Lead program sites.valid; trail = fits_opening Trail program sites.valid; world = refl })
+
+pub opening_goes : (program : MidProgram) (duo : DuoState) (end : _) → IsOpening program duo → duo.lead ≡ Ended end → ⊥
+opening_goes program duo end opening h = let clash : Went (opening_side program) ≡ Ended end = sym (ap (λ d. d.lead) opening.2) ∙ h in cc

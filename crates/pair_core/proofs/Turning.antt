@@ -1,5 +1,5 @@
 -- One event of the core, from what the code did.
-use Rattle.std.proofs.Common.{◌≡◌, ◌≢◌, ℕ, zero, suc, ◌+◌, ◌-◌, ◌<◌, ◌≤◌, ◌⊎◌, inl, inr, Bool, true, false, List, [], ◌∷◌, ◌++◌, length, take, drop, min, nat_lt, Option, Some, None, refl, sym, ap, ◌∙◌, subst, arith, length-take, append-nil, append_assoc}
+use Rattle.std.proofs.Common.{◌≡◌, ℕ, zero, suc, ◌+◌, ◌<◌, ◌≤◌, inl, inr, Bool, true, false, List, [], ◌∷◌, ◌++◌, length, take, drop, nat_lt, Option, Some, None, refl, sym, ap, ◌∙◌, subst, arith, length-take, append-nil, append_assoc}
 use Rattle.std.specs.Prelude.{◌&&◌, not}
 use Rattle.std.proofs.lemmas.Bool.{lt-ltb, le-ltb}
 use Rattle.srmt_base.specs.declared.event.Event.{Event}
@@ -10,20 +10,18 @@ use Rattle.mid_code.specs.declared.program.MidProgram.{MidProgram}
 use Rattle.world.specs.World.{WorldState}
 use Rattle.machine.specs.declared.link_call.Taken.{Taken}
 use Rattle.machine.specs.declared.link_call.Taken.TheVariants.{Word, NotYet as NoWordYet, Closed as NoMore}
-use Rattle.machine.specs.declared.link_call.LastCall.{LastCall}
 use Rattle.machine.specs.declared.link_call.LastCall.TheVariants.{Nothing, Room, Take}
 use Rattle.machine.specs.declared.one_step.OneStep.{OneStep}
-use Rattle.machine.specs.declared.thread_end.ThreadEnd.{ThreadEnd}
 use Rattle.machine.specs.declared.thread_end.Stepped.{Stepped}
-use Rattle.machine.specs.declared.thread_end.Stepped.TheVariants.{Went as Made, NotYet, Ended as MadeLast}
-use Rattle.machine.specs.Origin.{Origin, Given}
+use Rattle.machine.specs.declared.thread_end.Stepped.TheVariants.{NotYet}
+use Rattle.machine.specs.Origin.{Given}
 use Rattle.machine.specs.OneStep.{made_of, sent_of, taken_of, gone_of, asks_of, last_of}
-use Rattle.machine.specs.Side.{SideState, Meet, Plain, Got, Closed, Failed, Outcome, Went, Ended, StepGives}
+use Rattle.machine.specs.Side.{SideState, Meet, Plain, Got, Closed, Failed, Outcome, Went, StepGives}
 use Rattle.machine.specs.Steps.{side_op, takes_at, may_send_at, step_room}
 use Rattle.machine.specs.Meets.{next_of, MeetsBy}
-use Rattle.machine.specs.Tried.{Shown, shown, question, waiting, Asks, Sends, Makes, Waits, TriesBy, Tries}
-use Rattle.pair_core.specs.Duo.{DuoState, is_over, View, view_of, Finds, Waits as FindsNone, Meets, finds_word, failed_by, meet_by, finds_room, is_crowded, finds_by, finds, put_on, stepped_of, Turned, made, turn_found, turn_at, turn_of}
-use Rattle.pair_core.specs.Turns.{offered, room_left, left_by, outcome_by, end_of_step, Turns}
+use Rattle.machine.specs.Tried.{Shown, shown, question, Asks, Sends, Makes, Waits, Tries}
+use Rattle.pair_core.specs.Duo.{DuoState, is_over, view_of, Finds, Waits as FindsNone, Meets, finds_word, failed_by, meet_by, finds_room, finds_by, finds, put_on, stepped_of, Turned, made, turn_found, turn_at, turn_of}
+use Rattle.pair_core.specs.Turns.{offered, room_left, left_by}
 
 -- what the link of one step tells of itself after a step
 pub record LinkFacts (over : Bool) (coming : List ℕ) (room : ℕ) (going : List ℕ) (after : Shown) : Type 0 where
@@ -108,10 +106,11 @@ found_by false sending at over coming room going count (Got word) before after f
 found_by false sending at over coming room going count Closed before after facts fits fresh quiet can asks = absurd (cc)
 found_by false true at over coming room going count Plain before after facts fits fresh quiet can asks =
     (None, ap (λ b. finds_room b Plain coming) (roomy over room going fits (facts.granted asks.0)) ∙ ap (λ c. Meets Plain (left_by c coming)) (sym asks.0))
-found_by false true at over coming room going count (Failed written) before after facts fits fresh quiet can asks =
-    (Some written,
-      ap (λ b. finds_room b (failed_by (nat_lt written count) written) coming) (roomy over room going fits (facts.granted asks.0))
-      ∙ ap (λ b. Meets (failed_by b written) coming) (lt-ltb written count can.1) ∙ ap (λ c. Meets (Failed written) (left_by c coming)) (sym asks.0))
+found_by false true at over coming room going count (Failed written) before after facts fits fresh quiet can asks = (
+  Some written,
+  ap (λ b. finds_room b (failed_by (nat_lt written count) written) coming) (roomy over room going fits (facts.granted asks.0))
+      ∙ ap (λ b. Meets (failed_by b written) coming) (lt-ltb written count can.1) ∙ ap (λ c. Meets (Failed written) (left_by c coming)) (sym asks.0),
+)
 found_by false false at over coming room going count Plain before after facts fits fresh quiet can asks =
     (None, ap (λ c. Meets Plain (left_by c coming)) (sym (asks.0 ∙ quiet)))
 found_by false false at over coming room going count (Failed written) before after facts fits fresh quiet can asks =
@@ -182,7 +181,8 @@ module _ (side : Side) (program : MidProgram) (duo : DuoState) (s : SideState) (
       let gives = next_of side program s duo.world makes.meet in
       let found = found_by (takes_at (side_op side program s)) (may_send_at (side_op side program s)) (view_of side duo).at (view_of side duo).peer_over (view_of side duo).coming (view_of side duo).room (view_of side duo).going (length (next_of side program s duo.world Plain).events) makes.meet before after facts fits fresh quiet makes.can_meet makes.asks in
       let sent : gives.sent ≡ after.sent = all_sent after.gone before.sent gives.sent after.sent facts.here none makes.words in
-      let state = made_by side gives outcome w' after.sent (left_by after.last (view_of side duo).coming) duo makes.outcome_is makes.world_is sent in
-      (found.0,
+      let state = made_by side gives outcome w' after.sent (left_by after.last (view_of side duo).coming) duo makes.outcome_is makes.world_is sent in (
+        found.0,
         turned found.0 (Meets makes.meet (left_by after.last (view_of side duo).coming)) found.1
-        ∙ turned_same (made side gives (left_by after.last (view_of side duo).coming) duo) _ gives.events events (stepped_of gives.outcome) (stepped_of outcome) state makes.events_are (ap stepped_of makes.outcome_is))
+            ∙ turned_same (made side gives (left_by after.last (view_of side duo).coming) duo) _ gives.events events (stepped_of gives.outcome) (stepped_of outcome) state makes.events_are (ap stepped_of makes.outcome_is),
+      )

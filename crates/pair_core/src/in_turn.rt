@@ -22,8 +22,7 @@ use srmt_outside::Outlet;
 /// Runs both sides in one thread to their end: the leading side until it waits or ends, then the
 /// trailing side, and so on. The Duo is as `start` gave it. Takes no memory.
 pub fn alternate<O: Outlet>(duo: &mut Duo, pair: &Pair, outlet: &mut O) -> Ran
-    requires opening { IsOpening pair.now duo.old }
-    requires fits { DuoFits pair.now duo.old }
+    requires { IsOpening pair.now duo.old }
     ensures answer { (input : List ℕ) (limits : Limits) → duo.old ≡ opening_duo pair.now input limits → (events : List Event) × Appends (O.events outlet.old) (O.events outlet.new) events × IsAnswer pair.now input limits events result × FollowsIdeal pair.now input limits events result }
 
     // The verdict is a fault of the outlet only where the outlet says so.

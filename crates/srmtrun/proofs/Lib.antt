@@ -4,6 +4,7 @@ pub mod Puts
 pub mod Tokens
 pub mod Form
 pub mod ValidCode
+pub mod Limiting
 pub mod CodeMeaning
 pub mod Serving
 pub mod Clauses

@@ -1,5 +1,5 @@
 -- What a run on one thread answers, from what its parts say.
-use Rattle.std.proofs.Common.{◌≡◌, ℕ, ◌+◌, ◌≤◌, List, [], ◌∷◌, ◌++◌, length, take, Option, Result, Ok, Err, refl, sym, ap, subst, ◌∙◌, arith}
+use Rattle.std.proofs.Common.{◌≡◌, ◌⊎◌, inl, inr, ℕ, ◌+◌, ◌≤◌, List, [], ◌∷◌, ◌++◌, length, take, Option, Result, Ok, Err, refl, sym, ap, subst, ◌∙◌, arith}
 use Rattle.std.specs.Prelude.{IfSome, IfOk, IfErr, option_map}
 use Rattle.std.proofs.Math.Seq.{take-append_seam, take-length}
 use Rattle.std.proofs.lemmas.Option.{IfSome_then}
@@ -8,21 +8,30 @@ use Rattle.srmt_base.specs.declared.limits.Limits.{Limits}
 use Rattle.srmt_base.specs.declared.trap.SourceEnd.{SourceEnd}
 use Rattle.srmt_outside.specs.Told.{Appends, AppendsPrefix}
 use Rattle.mid_code.specs.declared.program.MidProgram.{MidProgram}
-use Rattle.mid_code.specs.Machine.{Machine}
-use Rattle.mid_code.specs.Meaning.{Run, Running, Ended, NoWay, preceded, exec, started, Finishes, Middle}
+use Rattle.mid_code.specs.Meaning.{State, Run, Running, Ended, NoWay, preceded, exec, started, Finishes, Middle}
 use Rattle.mid_code.proofs.Runs.{one_end, stays_ended, exec_on}
 use Rattle.mid_run.specs.Progress.{Progress, At, Over, Runs}
+use Rattle.world.specs.Ideal.{IsIdeal}
+use Rattle.world.proofs.Running.{ideal_sound, ideal_whole}
+use Rattle.pair_core.specs.declared.verdict.Ran.{Ran}
+use Rattle.pair_core.specs.declared.verdict.Verdict.TheVariants.{WriteFault as FaultVerdict}
+use Rattle.pair_core.specs.Answer.{IsAnswer, verdict_as}
+use Rattle.pair_core.specs.Fit.{IsPrefix}
+use Rattle.pair_core.proofs.Sounds.{first_events}
 use Rattle.srmtrun.specs.declared.answer.RunAnswer.{RunAnswer}
-use Rattle.srmtrun.specs.declared.answer.RunAnswer.TheVariants.{Alone, Usage, ReadFault, TooLong, Refused, WriteFault, OutOfMemory}
+use Rattle.srmtrun.specs.declared.answer.RunAnswer.TheVariants.{Alone, Ran as RanBoth, Usage, ReadFault, TooLong, Refused, WriteFault, OutOfMemory}
 use Rattle.srmtrun.specs.declared.first_form.FormRefusal.{FormRefusal}
 use Rattle.srmtrun.specs.declared.first_form.FormRefusal.TheVariants.{Form, Memory}
 use Rattle.srmtrun.specs.declared.first_form.FirstForm.{FirstForm}
 use Rattle.srmtrun.specs.Answer.{answer_from, refused}
+use Rattle.srmtrun.specs.declared.words.Mode.{Mode}
+use Rattle.srmtrun.specs.declared.words.Mode.TheVariants.{Single, Alternate}
 use Rattle.srmtrun.specs.FirstForm.{IsFirstForm}
 use Rattle.srmtrun.specs.Lowered.{Implements}
 use Rattle.srmtrun.specs.Meaning.{events_of, end_of}
-use Rattle.srmtrun.specs.Still.{AsksFor}
-use Rattle.srmtrun.specs.Parts.{Serves, StopsRun}
+use Rattle.srmtrun.specs.declared.still.TheConstants.{LIMITS}
+use Rattle.srmtrun.specs.Still.{AsksFor, RunsBoth}
+use Rattle.srmtrun.specs.Parts.{Serves, StopsRun, RanBySides}
 
 -- a run that has not ended has written the first events of the whole run
 ended_front : (before : List Event) (r : Run) (fs : List Event) (end : SourceEnd) → preceded before r ≡ Ended end fs → take (length before) fs ≡ before
@@ -30,7 +39,7 @@ ended_front before (Running m seen) fs end e = absurd cc
 ended_front before (Ended over seen) fs end e = let all : before ++ seen ≡ fs = cc in ap (take (length before)) (sym all) ∙ take-append_seam before seen
 ended_front before NoWay fs end e = absurd cc
 
-run_front : (program : MidProgram) (m : Machine) (p : Progress) (es fs : List Event) (end : SourceEnd) → Runs program (At m) es p → Finishes program m fs end → take (length es) fs ≡ es
+run_front : (program : MidProgram) (m : State) (p : Progress) (es fs : List Event) (end : SourceEnd) → Runs program (At m) es p → Finishes program m fs end → take (length es) fs ≡ es
 run_front program m (At next) es fs end runs whole =
     let on = exec_on program runs.0 whole.0 m next es runs.1 in
     let stays = stays_ended program whole.0 runs.0 m end fs whole.1 in
@@ -41,28 +50,60 @@ run_front program m (Over over) es fs end runs whole =
     ap (λ xs. take (length xs) fs) same ∙ take-length fs ∙ sym same
 
 -- the events so far are a prefix of all that the program means
-pub prefix_written : (program : MidProgram) (limits : Limits) (start end : Progress) (before after : Option (List Event)) → start ≡ At (started program) → ((es : List Event) × Runs program start es end × Appends before after es) → (fs : List Event) (over : SourceEnd) → Middle program [] limits fs over → AppendsPrefix before after fs
+pub prefix_written : (program : MidProgram) (limits : Limits) (start end : Progress) (before after : Option (List Event)) → start ≡ At (started program [] limits) → ((es : List Event) × Runs program start es end × Appends before after es) → (fs : List Event) (over : SourceEnd) → Middle program [] limits fs over → AppendsPrefix before after fs
 prefix_written program limits start end before after is so_far fs over means =
     let es = so_far.0 in
     let runs = subst (λ (s : Progress). Runs program s es end) is so_far.1 in
-    (length es, so_far.2 ∙ ap (λ xs. option_map (λ told. told ++ xs) before) (sym (run_front program (started program) end es fs over runs means)))
+    (length es, so_far.2 ∙ ap (λ xs. option_map (λ told. told ++ xs) before) (sym (run_front program (started program [] limits) end es fs over runs means)))
 
-module _ (told : Option (List ℕ)) (before after : Option (List Event)) (read_failed write_failed : Type 0) (bytes : List ℕ) (same : IfSome told (λ t. t ≡ bytes)) (within : length bytes ≤ 1048576) where
-  pub refused_serves : (e : FormRefusal) → (e ≡ Form → (form : FirstForm) → IsFirstForm bytes form → ⊥) → Serves told before before read_failed write_failed (refused e)
+module _ (told : Option (List ℕ)) (before after : Option (List Event)) (read_failed write_failed : Type 0) (mode : Mode) (bytes : List ℕ) (same : IfSome told (λ t. t ≡ bytes)) (within : length bytes ≤ 1048576) where
+  pub refused_serves : (e : FormRefusal) → (e ≡ Form → (form : FirstForm) → IsFirstForm bytes form → ⊥) → Serves mode told before before read_failed write_failed (refused e)
   refused_serves Form none = (IfSome_then told same (λ t e. (subst (λ (b : List ℕ). length b ≤ 1048576) (sym e) within, λ form is. none refl form (subst (λ (b : List ℕ). IsFirstForm b form) e is))), refl)
   refused_serves Memory none = refl
 
-  pub run_serves : (limits : Limits) (program : MidProgram) (form : FirstForm) → IsFirstForm bytes form → Implements program form → (r : Result SourceEnd RunAnswer) → IfOk r (λ end. (events : List Event) × Middle program [] limits events end × Appends before after events) → IfErr r (StopsRun program limits before after write_failed) → Serves told before after read_failed write_failed (answer_from r)
-  run_serves limits program form is code (Ok end) ok err =
-      let one = one_end program (started program) ok.0 (events_of form) end (end_of form) ok.1 (code.means [] limits) in
-      (form, record { bytes = bytes; told_bytes = same; within = within; is_form = is }, one.1, ok.2 ∙ ap (λ es. option_map (λ told. told ++ es) before) one.0)
-  run_serves limits program form is code (Err WriteFault) ok err = (err.0, (form, record { bytes = bytes; told_bytes = same; within = within; is_form = is }, err.1 (events_of form) (end_of form) (code.means [] limits)))
-  run_serves limits program form is code (Err OutOfMemory) ok err = err
-  run_serves limits program form is code (Err (Alone end)) ok err = absurd err
-  run_serves limits program form is code (Err Usage) ok err = absurd err
-  run_serves limits program form is code (Err ReadFault) ok err = absurd err
-  run_serves limits program form is code (Err TooLong) ok err = absurd err
-  run_serves limits program form is code (Err (Refused cause)) ok err = absurd err
+  pub run_serves : mode ≡ Single → (limits : Limits) (program : MidProgram) (form : FirstForm) → IsFirstForm bytes form → Implements program form → (r : Result SourceEnd RunAnswer) → IfOk r (λ end. (events : List Event) × Middle program [] limits events end × Appends before after events) → IfErr r (StopsRun program limits before after write_failed) → Serves mode told before after read_failed write_failed (answer_from r)
+  run_serves how limits program form is code (Ok end) ok err =
+      let one = one_end program (started program [] limits) ok.0 (events_of form) end (end_of form) ok.1 (code.means [] limits) in
+      (how, (form, record { bytes = bytes; told_bytes = same; within = within; is_form = is }, one.1, ok.2 ∙ ap (λ es. option_map (λ told. told ++ es) before) one.0))
+  run_serves how limits program form is code (Err WriteFault) ok err = (how, err.0, (form, record { bytes = bytes; told_bytes = same; within = within; is_form = is }, err.1 (events_of form) (end_of form) (code.means [] limits)))
+  run_serves how limits program form is code (Err OutOfMemory) ok err = err
+  run_serves how limits program form is code (Err (Alone end)) ok err = absurd err
+  run_serves how limits program form is code (Err (RanBoth ran)) ok err = absurd err
+  run_serves how limits program form is code (Err Usage) ok err = absurd err
+  run_serves how limits program form is code (Err ReadFault) ok err = absurd err
+  run_serves how limits program form is code (Err TooLong) ok err = absurd err
+  run_serves how limits program form is code (Err (Refused cause)) ok err = absurd err
+
+-- both sides of the program give what the source does
+pub both_runs : (program : MidProgram) (form : FirstForm) (before after : Option (List Event)) (write_failed : Type 0) (ran : Ran) → Implements program form → RanBySides program LIMITS before after write_failed ran → RunsBoth form before after write_failed ran
+both_runs program form before after write_failed ran code r = record {
+  events = r.events;
+  written = r.written;
+  answer = subst (λ (p : MidProgram). IsAnswer p [] LIMITS r.events ran) code.same r.answer;
+  outcome = by_end r.follows.whole;
+}
+  where
+    means : Middle program [] LIMITS (events_of form) (end_of form)
+    means = code.means [] LIMITS
+
+    whole_run : (words : List ℕ) × IsIdeal program [] LIMITS words (events_of form) (end_of form)
+    whole_run = ideal_whole program code.sites [] LIMITS (events_of form) (end_of form) means
+
+    first : IsPrefix r.events (events_of form)
+    first = first_events program [] LIMITS code.sites r.events (events_of form) whole_run.0 (end_of form) r.follows.first whole_run.1
+
+    by_end : ((ran.verdict ≡ FaultVerdict) ⊎ ((end : SourceEnd) × (words : List ℕ) × IsIdeal program [] LIMITS words r.events end × (ran.verdict ≡ verdict_as end))) →
+        ((ran.verdict ≡ FaultVerdict) × write_failed × AppendsPrefix before after (events_of form)) ⊎ ((r.events ≡ events_of form) × (ran.verdict ≡ verdict_as (end_of form)))
+    by_end (inl fault) =
+        let front : take (length r.events) (events_of form) ≡ r.events = ap (take (length r.events)) first.1 ∙ take-append_seam r.events first.0 in
+        inl (fault, r.failed fault, (length r.events, r.written ∙ ap (λ es. option_map (λ told. told ++ es) before) (sym front)))
+    by_end (inr (end, words, ideal, verdict)) =
+        let one = one_end program (started program [] LIMITS) r.events (events_of form) end (end_of form) (ideal_sound program code.sites [] LIMITS words r.events end ideal) means in
+        inr (one.0, verdict ∙ ap verdict_as one.1)
+
+module _ (told : Option (List ℕ)) (before after : Option (List Event)) (read_failed write_failed : Type 0) (bytes : List ℕ) (same : IfSome told (λ t. t ≡ bytes)) (within : length bytes ≤ 1048576) where
+  pub sides_serve : (program : MidProgram) (form : FirstForm) → IsFirstForm bytes form → Implements program form → (ran : Ran) → RanBySides program LIMITS before after write_failed ran → Serves Alternate told before after read_failed write_failed (RanBoth ran)
+  sides_serve program form is code ran r = (refl, (form, record { bytes = bytes; told_bytes = same; within = within; is_form = is }, both_runs program form before after write_failed ran code r))
 
 pub refused_asks : (e : FormRefusal) (before after : Option (List (List ℕ))) (name : List ℕ) → Appends before after (name ∷ []) → AsksFor (refused e) before after name
 refused_asks Form before after name asked = asked

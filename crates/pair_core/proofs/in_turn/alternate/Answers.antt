@@ -1,6 +1,8 @@
-use Rattle.std.proofs.Common.{◌<◌, ◌++◌, sym, subst, arith}
-use Rattle.srmt_outside.proofs.Told.{Appends-both}
-use Rattle.pair_core.proofs.Alternating.{turns_left, turns_lower, turns_reach, countable, answered_so, rose_on}
+use Rattle.std.proofs.Common.{◌<◌, [], ◌++◌, sym, subst, arith}
+use Rattle.srmt_outside.proofs.Told.{Appends-nothing, Appends-both}
+use Rattle.pair_core.proofs.Alternating.{turns_left, turns_lower, turns_reach, countable, answered_so, rose_on, opening_fits, opening_goes}
+use Rattle.pair_core.proofs.Reaching.{reached_opening}
+use Rattle.pair_core.specs.Duo.{Reached}
 use Rattle.pair_core.proofs.in_turn.alternate.Goals as goal
 
 pub returns-in-Some-clause-answer : goal.returns-in-Some-clause-answer
@@ -9,15 +11,23 @@ returns-in-Some-clause-answer g c = λ input limits opening.
     let answer = answered_so c.args.pair.now input limits c.loop-ran.duo so_far.0 c.classed-classed.ensures.sites so_far.2 c.in-Some.ran c.in-Some.ensures in
     (so_far.0, so_far.1, answer.0, answer.1)
 
+pub loop-ran-init : goal.loop-ran-init
+loop-ran-init g c = record {
+  reached = λ input limits opening. ([], Appends-nothing _, subst (λ d. Reached c.args.pair.now input limits d []) (sym opening) (reached_opening c.args.pair.now input limits));
+  fits = opening_fits c.args.pair.now c.args.duo.now c.classed-classed.ensures.sites c.requires;
+  failed = λ h. absurd (opening_goes c.args.pair.now c.args.duo.now _ c.requires h);
+  faults = omega arith;
+}
+
 pub turn-side-requires-clause-countable : goal.turn-side-requires-clause-countable
 turn-side-requires-clause-countable g c =
-    let opening = c.requires.opening in
+    let opening = c.requires in
     let so_far = c.loop-ran.invariant.reached opening.0 opening.1 opening.2 in
     countable c.args.pair.now opening.0 opening.1 c.loop-ran.duo so_far.0 c.classed-classed.ensures.sites so_far.2
 
 pub loop-ran-smaller : goal.loop-ran-smaller
 loop-ran-smaller g c =
-    let opening = c.requires.opening in
+    let opening = c.requires in
     let so_far = c.loop-ran.invariant.reached opening.0 opening.1 opening.2 in
     let turn = c.turn-side.ensures.turn in
     subst (λ s. turns_left c.args.pair.now s c.turn-side.new.duo < turns_left c.args.pair.now c.loop-ran.side c.loop-ran.duo) (sym turn.5)

@@ -1,5 +1,6 @@
 use Rattle.std.proofs.lemmas.Result.{err_from_is_err_and}
 use Rattle.srmtrun.proofs.Serving.{prefix_written}
+use Rattle.srmtrun.proofs.Limiting.{limits_fit}
 use Rattle.srmtrun.specs.declared.still.TheConstants.{LIMITS}
 use Rattle.srmtrun.proofs.still.run.Goals as goal
 
@@ -8,3 +9,6 @@ pub returns-in_err-run-2-clause-err : goal.returns-in_err-run-2-clause-err
 returns-in_err-run-2-clause-err g c =
     let p = err_from_is_err_and c.from_residual-in_err-run-2.result c.from_residual-in_err-run-2.ensures.1 in
     rw (p.1, p.2) (c.in_err-run-2.ensures.failed, prefix_written c.args.program.now LIMITS c.in_ok-run.run' c.run.new.self (g.O.Outlet.events c.args.outlet.now) (g.O.Outlet.events c.run.new.outlet) c.in_ok-run.ensures.started c.in_err-run-2.ensures.runs)
+
+pub start-requires-clause-limits : goal.start-requires-clause-limits
+start-requires-clause-limits g c = limits_fit c.args.program.now c.requires
