@@ -7,6 +7,10 @@ use srmt_outside::{MemFiles, MemOutlet, MemSink, SureFiles};
 use std::alloc::{AllocError, Global};
 use std::test::Fail;
 
+mod pairs;
+mod schedules;
+mod sides;
+
 const FORM: RunAnswer = RunAnswer::Refused(CompileRefusal::Form);
 
 // The words of a command.
