@@ -1,5 +1,5 @@
 -- What a run on one thread answers, from what its parts say.
-use Rattle.std.proofs.Common.{◌≡◌, ◌⊎◌, inl, inr, ℕ, ◌+◌, ◌≤◌, List, [], ◌∷◌, ◌++◌, length, take, Option, Result, Ok, Err, refl, sym, ap, subst, ◌∙◌, arith}
+use Rattle.std.proofs.Common.{◌≡◌, ◌⊎◌, inl, inr, ℕ, ◌+◌, ◌≤◌, List, [], ◌∷◌, ◌++◌, length, take, Option, Some, Result, Ok, Err, refl, sym, ap, subst, ◌∙◌, arith}
 use Rattle.std.specs.Prelude.{IfSome, IfOk, IfErr, option_map}
 use Rattle.std.proofs.Math.Seq.{take-append_seam, take-length}
 use Rattle.std.proofs.lemmas.Option.{IfSome_then}
@@ -19,6 +19,7 @@ use Rattle.pair_core.specs.Answer.{IsAnswer, FollowsIdeal, verdict_as}
 use Rattle.pair_core.specs.Duo.{DuoState, opening_duo}
 use Rattle.pair_core.specs.Fit.{IsPrefix}
 use Rattle.pair_core.proofs.Sounds.{first_events}
+use Rattle.mid_run.specs.Progress.{end_of as progress_end}
 use Rattle.srmtrun.specs.declared.answer.RunAnswer.{RunAnswer}
 use Rattle.srmtrun.specs.declared.answer.RunAnswer.TheVariants.{Alone, Ran as RanBoth, Usage, ReadFault, TooLong, Refused, WriteFault, OutOfMemory}
 use Rattle.srmtrun.specs.declared.first_form.FormRefusal.{FormRefusal}
@@ -117,3 +118,22 @@ module _ (told : Option (List ℕ)) (before after : Option (List Event)) (read_f
 pub refused_asks : (e : FormRefusal) (before after : Option (List (List ℕ))) (name : List ℕ) → Appends before after (name ∷ []) → AsksFor (refused e) before after name
 refused_asks Form before after name asked = asked
 refused_asks Memory before after name asked = (1, asked)
+
+-- the file was asked for, whatever the run answers
+pub run_asks : (r : Result SourceEnd RunAnswer) (before after : Option (List (List ℕ))) (name : List ℕ) → Appends before after (name ∷ []) → AsksFor (answer_from r) before after name
+run_asks (Ok end) before after name asked = asked
+run_asks (Err OutOfMemory) before after name asked = (1, asked)
+run_asks (Err WriteFault) before after name asked = asked
+run_asks (Err (Alone end)) before after name asked = asked
+run_asks (Err Usage) before after name asked = asked
+run_asks (Err ReadFault) before after name asked = asked
+run_asks (Err TooLong) before after name asked = asked
+run_asks (Err (Refused cause)) before after name asked = asked
+
+-- a run that has ended from the start has given what the program means
+pub run_finished : (program : MidProgram) (limits : Limits) (start final : Progress) (events : List Event) (end : SourceEnd) → start ≡ At (started program [] limits) → Runs program start events final → progress_end final ≡ Some end → Middle program [] limits events end
+run_finished program limits start final events end is runs ended = by_final final (subst (λ (s : Progress). Runs program s events final) is runs) ended
+  where
+    by_final : (q : Progress) → Runs program (At (started program [] limits)) events q → progress_end q ≡ Some end → Middle program [] limits events end
+    by_final (At s) runs ended = absurd (cc)
+    by_final (Over over) runs ended = let same : over ≡ end = cc in subst (λ (e : SourceEnd). Middle program [] limits events e) same runs
