@@ -1,5 +1,5 @@
 -- What the functions of a pair's program are like: their instructions are of the first form, and keep the rules.
-use Rattle.std.proofs.Common.{◌≡◌, ℕ, zero, suc, ◌+◌, ◌-◌, ◌<◌, ◌≤◌, ◌^◌, List, [], ◌∷◌, length, take, Option, Some, None, Bool, true, false, refl, sym, ap, ◌∙◌, subst, arith}
+use Rattle.std.proofs.Common.{◌≡◌, ℕ, zero, suc, ◌+◌, ◌-◌, ◌<◌, ◌≤◌, ◌^◌, List, [], ◌∷◌, length, take, Some, Bool, true, false, refl, ◌∙◌, arith}
 use Rattle.std.specs.Prelude.{All, ◌&&◌, not, nat_le, slice_get}
 use Rattle.std.proofs.lemmas.Bool.{eq-eqb, leb-false}
 use Rattle.mid_code.specs.declared.mid.Mid.{Mid}
@@ -15,7 +15,7 @@ use Rattle.mid_code.specs.Valid.{IsValid}
 use Rattle.mid_code.specs.Classes.{protected_functions}
 use Rattle.mid_code.specs.Pairs.{IsOfFirstForm, HasSites}
 use Rattle.mid_code.proofs.Keeping.{KeepsRules, keeps, neither}
-use Rattle.mid_code.proofs.Naming.{KeepsProgram, whole, function_kept, first_there}
+use Rattle.mid_code.proofs.Naming.{whole, function_kept, first_there}
 use Rattle.mid_code.proofs.Values.{found_one, one_within}
 
 -- an instruction of the first form whose registers are there and whose value is small

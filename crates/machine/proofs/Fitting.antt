@@ -1,6 +1,6 @@
 -- A side that fits stands at an instruction that fits, and fits after it.
-use Rattle.std.proofs.Common.{◌≡◌, ℕ, ◌+◌, ◌-◌, ◌<◌, ◌≤◌, ◌^◌, List, [], ◌∷◌, length, Option, Some, None, refl, sym, ap, ◌∙◌, subst, arith}
-use Rattle.std.specs.Prelude.{All, replicate, slice_get, slice_set}
+use Rattle.std.proofs.Common.{◌≡◌, ℕ, ◌+◌, ◌-◌, ◌<◌, ◌^◌, List, [], length, Option, Some, None, refl, sym, ap, ◌∙◌, subst, arith}
+use Rattle.std.specs.Prelude.{All, replicate}
 use Rattle.std.proofs.lemmas.List.{length-set}
 use Rattle.std.proofs.lemmas.List.Elements.{All-nil, All-set}
 use Rattle.srmt_base.specs.declared.limits.Limits.{Limits}
@@ -15,9 +15,8 @@ use Rattle.mid_code.specs.declared.program.MidFunction.{MidFunction}
 use Rattle.mid_code.specs.declared.program.MidProgram.{MidProgram}
 use Rattle.mid_code.specs.declared.version.VersionOp.{VersionOp}
 use Rattle.mid_code.specs.declared.version.VersionOp.TheVariants.{Copied, Ask, Await, Act, Check, Ack, End}
-use Rattle.mid_code.specs.declared.version.VersionLine.{VersionLine}
 use Rattle.mid_code.specs.Program.{function_at}
-use Rattle.mid_code.specs.Classes.{site_at, protected_functions}
+use Rattle.mid_code.specs.Classes.{site_at}
 use Rattle.mid_code.specs.Pairs.{HasSites}
 use Rattle.mid_code.specs.Versions.{version_at}
 use Rattle.mid_code.specs.Machine.{Machine, Goes, act, given, register, spent}
@@ -26,7 +25,7 @@ use Rattle.mid_code.specs.Start.{full_budget, main_activation}
 use Rattle.mid_code.proofs.Values.{one_within, first_registers}
 use Rattle.mid_code.proofs.Fetching.{fetch, group_of}
 use Rattle.machine.specs.Side.{SideState, opening}
-use Rattle.machine.specs.Steps.{versions_of, side_op, passed_on}
+use Rattle.machine.specs.Steps.{versions_of, passed_on}
 use Rattle.machine.specs.Fits.{HeardFits, SideFits}
 use Rattle.machine.proofs.FirstForm.{AreFit, is_main, first_function_at}
 use Rattle.machine.proofs.Groups.{IsLast, OpFits, ops_of, group_fits}

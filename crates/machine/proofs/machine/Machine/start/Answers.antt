@@ -1,7 +1,6 @@
 use Rattle.std.proofs.Common.{rules, [], ◌≡◌, ◌∙◌, sym, subst}
 use Rattle.std.specs.Prelude.{replicate}
 use Rattle.mid_code.specs.Program.{function_at}
-use Rattle.machine.specs.Side.{opening}
 use Rattle.machine.specs.Fits.{SideFits}
 use Rattle.machine.proofs.Fitting.{register_count, standing, opening_is, fits_opening}
 use Rattle.machine.proofs.machine.Machine.start.Goals as goal
