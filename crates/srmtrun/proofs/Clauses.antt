@@ -51,12 +51,12 @@ module _ (told : Option (List ℕ)) (bytes : List ℕ) (form : FirstForm) (e : t
   answers_form : (answer : RunAnswer) → Serves mode told before after read_failed write_failed answer → AnswersForm mode form before after read_failed write_failed answer
   answers_form (Alone end) (how, (other, source, ended, written)) =
       let same = same_form told bytes form other e is source in
-      (how, (ended ∙ ap end_of same, subst (λ (f : FirstForm). Appends before after (events_of f)) same written))
+      (how, ended ∙ ap end_of same, subst (λ (f : FirstForm). Appends before after (events_of f)) same written)
   answers_form (RanBoth ran) (how, (other, source, ran_so)) =
       (how, subst (λ (f : FirstForm). RunsBoth f before after write_failed ran) (same_form told bytes form other e is source) ran_so)
-  answers_form WriteFault (how, (failed, (other, source, written))) =
+  answers_form WriteFault (how, failed, (other, source, written)) =
       let same = same_form told bytes form other e is source in
-      (how, (failed, subst (λ (f : FirstForm). AppendsPrefix before after (events_of f)) same written))
+      (how, failed, subst (λ (f : FirstForm). AppendsPrefix before after (events_of f)) same written)
   answers_form ReadFault s = s
   answers_form OutOfMemory s = s
   answers_form TooLong s = let long = subst IsTooLong e s.0 in absurd (omega arith)

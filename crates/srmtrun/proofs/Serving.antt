@@ -16,7 +16,8 @@ use Rattle.world.specs.Ideal.{IsIdeal}
 use Rattle.world.proofs.Running.{ideal_sound, ideal_whole}
 use Rattle.pair_core.specs.declared.verdict.Ran.{Ran}
 use Rattle.pair_core.specs.declared.verdict.Verdict.TheVariants.{WriteFault as FaultVerdict}
-use Rattle.pair_core.specs.Answer.{IsAnswer, verdict_as}
+use Rattle.pair_core.specs.Answer.{IsAnswer, FollowsIdeal, verdict_as}
+use Rattle.pair_core.specs.Duo.{DuoState, opening_duo}
 use Rattle.pair_core.specs.Fit.{IsPrefix}
 use Rattle.pair_core.proofs.Sounds.{first_events}
 use Rattle.srmtrun.specs.declared.answer.RunAnswer.{RunAnswer}
@@ -66,7 +67,7 @@ module _ (told : Option (List ℕ)) (before after : Option (List Event)) (read_f
   run_serves how limits program form is code (Ok end) ok err =
       let one = one_end program (started program) ok.0 (events_of form) end (end_of form) ok.1 (code.means [] limits) in
       (how, (form, record { bytes = bytes; told_bytes = same; within = within; is_form = is }, one.1, ok.2 ∙ ap (λ es. option_map (λ told. told ++ es) before) one.0))
-  run_serves how limits program form is code (Err WriteFault) ok err = (how, (err.0, (form, record { bytes = bytes; told_bytes = same; within = within; is_form = is }, err.1 (events_of form) (end_of form) (code.means [] limits))))
+  run_serves how limits program form is code (Err WriteFault) ok err = (how, err.0, (form, record { bytes = bytes; told_bytes = same; within = within; is_form = is }, err.1 (events_of form) (end_of form) (code.means [] limits)))
   run_serves how limits program form is code (Err OutOfMemory) ok err = err
   run_serves how limits program form is code (Err (Alone end)) ok err = absurd err
   run_serves how limits program form is code (Err (RanBoth ran)) ok err = absurd err
@@ -74,6 +75,14 @@ module _ (told : Option (List ℕ)) (before after : Option (List Event)) (read_f
   run_serves how limits program form is code (Err ReadFault) ok err = absurd err
   run_serves how limits program form is code (Err TooLong) ok err = absurd err
   run_serves how limits program form is code (Err (Refused cause)) ok err = absurd err
+
+-- what alternate answers of a core that was started for the program
+pub ran_by_sides : (program pair : MidProgram) (input : List ℕ) (duo : DuoState) (before after : Option (List Event)) (write_failed : Type 0) (ran : Ran) → pair ≡ program → input ≡ [] → duo ≡ opening_duo pair input LIMITS →
+    ((given : List ℕ) (limits : Limits) → duo ≡ opening_duo pair given limits → (events : List Event) × Appends before after events × IsAnswer pair given limits events ran × FollowsIdeal pair given limits events ran) →
+    (ran.verdict ≡ FaultVerdict → write_failed) → RanBySides program LIMITS before after write_failed ran
+ran_by_sides program pair input duo before after write_failed ran same none opening answers failed =
+    let a = answers [] LIMITS (opening ∙ ap (λ (i : List ℕ). opening_duo pair i LIMITS) none) in
+    subst (λ (p : MidProgram). RanBySides p LIMITS before after write_failed ran) same (record { events = a.0; written = a.1; answer = a.2; follows = a.3; failed = failed })
 
 -- both sides of the program give what the source does
 pub both_runs : (program : MidProgram) (form : FirstForm) (before after : Option (List Event)) (write_failed : Type 0) (ran : Ran) → Implements program form → RanBySides program LIMITS before after write_failed ran → RunsBoth form before after write_failed ran
