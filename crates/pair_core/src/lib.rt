@@ -9,6 +9,8 @@ mod duo;
 mod in_turn;
 mod judging;
 mod laws;
+#[cfg(test)]
+mod tests;
 mod verdict;
 mod way;
 

@@ -1,5 +1,5 @@
 -- What a run on one thread answers, from what its parts say.
-use Rattle.std.proofs.Common.{◌≡◌, ◌⊎◌, inl, inr, ℕ, ◌+◌, ◌≤◌, List, [], ◌∷◌, ◌++◌, length, take, Option, Result, Ok, Err, refl, sym, ap, subst, ◌∙◌, arith}
+use Rattle.std.proofs.Common.{◌≡◌, ◌⊎◌, inl, inr, ℕ, ◌+◌, ◌≤◌, List, [], ◌∷◌, ◌++◌, length, take, Option, Some, Result, Ok, Err, refl, sym, ap, subst, ◌∙◌, arith}
 use Rattle.std.specs.Prelude.{IfSome, IfOk, IfErr, option_map}
 use Rattle.std.proofs.Math.Seq.{take-append_seam, take-length}
 use Rattle.std.proofs.lemmas.Option.{IfSome_then}
@@ -15,9 +15,11 @@ use Rattle.world.specs.Ideal.{IsIdeal}
 use Rattle.world.proofs.Running.{ideal_sound, ideal_whole}
 use Rattle.pair_core.specs.declared.verdict.Ran.{Ran}
 use Rattle.pair_core.specs.declared.verdict.Verdict.TheVariants.{WriteFault as FaultVerdict}
-use Rattle.pair_core.specs.Answer.{IsAnswer, verdict_as}
+use Rattle.pair_core.specs.Answer.{IsAnswer, FollowsIdeal, verdict_as}
+use Rattle.pair_core.specs.Duo.{DuoState, opening_duo}
 use Rattle.pair_core.specs.Fit.{IsPrefix}
 use Rattle.pair_core.proofs.Sounds.{first_events}
+use Rattle.mid_run.specs.Progress.{end_of as progress_end}
 use Rattle.srmtrun.specs.declared.answer.RunAnswer.{RunAnswer}
 use Rattle.srmtrun.specs.declared.answer.RunAnswer.TheVariants.{Alone, Ran as RanBoth, Usage, ReadFault, TooLong, Refused, WriteFault, OutOfMemory}
 use Rattle.srmtrun.specs.declared.first_form.FormRefusal.{FormRefusal}
@@ -74,6 +76,14 @@ module _ (told : Option (List ℕ)) (before after : Option (List Event)) (read_f
   run_serves how limits program form is code (Err TooLong) ok err = absurd err
   run_serves how limits program form is code (Err (Refused cause)) ok err = absurd err
 
+-- what alternate answers of a core that was started for the program
+pub ran_by_sides : (program pair : MidProgram) (input : List ℕ) (duo : DuoState) (before after : Option (List Event)) (write_failed : Type 0) (ran : Ran) → pair ≡ program → input ≡ [] → duo ≡ opening_duo pair input LIMITS →
+    ((given : List ℕ) (limits : Limits) → duo ≡ opening_duo pair given limits → (events : List Event) × Appends before after events × IsAnswer pair given limits events ran × FollowsIdeal pair given limits events ran) →
+    (ran.verdict ≡ FaultVerdict → write_failed) → RanBySides program LIMITS before after write_failed ran
+ran_by_sides program pair input duo before after write_failed ran same none opening answers failed =
+    let a = answers [] LIMITS (opening ∙ ap (λ (i : List ℕ). opening_duo pair i LIMITS) none) in
+    subst (λ (p : MidProgram). RanBySides p LIMITS before after write_failed ran) same (record { events = a.0; written = a.1; answer = a.2; follows = a.3; failed = failed })
+
 -- both sides of the program give what the source does
 pub both_runs : (program : MidProgram) (form : FirstForm) (before after : Option (List Event)) (write_failed : Type 0) (ran : Ran) → Implements program form → RanBySides program LIMITS before after write_failed ran → RunsBoth form before after write_failed ran
 both_runs program form before after write_failed ran code r = record {
@@ -108,3 +118,22 @@ module _ (told : Option (List ℕ)) (before after : Option (List Event)) (read_f
 pub refused_asks : (e : FormRefusal) (before after : Option (List (List ℕ))) (name : List ℕ) → Appends before after (name ∷ []) → AsksFor (refused e) before after name
 refused_asks Form before after name asked = asked
 refused_asks Memory before after name asked = (1, asked)
+
+-- the file was asked for, whatever the run answers
+pub run_asks : (r : Result SourceEnd RunAnswer) (before after : Option (List (List ℕ))) (name : List ℕ) → Appends before after (name ∷ []) → AsksFor (answer_from r) before after name
+run_asks (Ok end) before after name asked = asked
+run_asks (Err OutOfMemory) before after name asked = (1, asked)
+run_asks (Err WriteFault) before after name asked = asked
+run_asks (Err (Alone end)) before after name asked = asked
+run_asks (Err Usage) before after name asked = asked
+run_asks (Err ReadFault) before after name asked = asked
+run_asks (Err TooLong) before after name asked = asked
+run_asks (Err (Refused cause)) before after name asked = asked
+
+-- a run that has ended from the start has given what the program means
+pub run_finished : (program : MidProgram) (limits : Limits) (start final : Progress) (events : List Event) (end : SourceEnd) → start ≡ At (started program [] limits) → Runs program start events final → progress_end final ≡ Some end → Middle program [] limits events end
+run_finished program limits start final events end is runs ended = by_final final (subst (λ (s : Progress). Runs program s events final) is runs) ended
+  where
+    by_final : (q : Progress) → Runs program (At (started program [] limits)) events q → progress_end q ≡ Some end → Middle program [] limits events end
+    by_final (At s) runs ended = absurd (cc)
+    by_final (Over over) runs ended = let same : over ≡ end = cc in subst (λ (e : SourceEnd). Middle program [] limits events e) same runs

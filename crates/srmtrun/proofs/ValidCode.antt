@@ -15,7 +15,7 @@ use Rattle.mid_code.specs.declared.mid.Mid.{Mid}
 use Rattle.mid_code.specs.declared.mid.Mid.TheVariants.{Const, Conv, Put, Exit}
 use Rattle.mid_code.specs.Operands.{operands}
 use Rattle.mid_code.specs.Flow.{goes_to, enters, leaves, entry, entered, found_at, same_places, has_others, closes_wrongly, enters_wrongly, breaks_order_by, breaks_order}
-use Rattle.mid_code.specs.Rules.{breaks_function, is_beyond, has_outside, names_nothing, has_other_kind, mixes_kinds, jumps_wrongly, is_final, runs_out, misfits, misfits_params, instruction_rule, line_rule, function_rule, rule_broken}
+use Rattle.mid_code.specs.Rules.{breaks_function, is_beyond, has_outside, names_nothing, has_other_kind, mixes_kinds, jumps_wrongly, is_final, runs_out, misfits, misfits_params, early_rule, or_order, instruction_rule, line_rule, function_rule, rule_broken}
 use Rattle.mid_code.specs.Valid.{IsValid}
 use Rattle.mid_code.specs.Classes.{site_count, all_sites, protected_functions}
 use Rattle.mid_code.specs.Pairs.{IsOfFirstForm, HasSites}
@@ -24,6 +24,10 @@ use Rattle.srmtrun.specs.declared.first_form.PutConstant.{PutConstant}
 use Rattle.srmtrun.specs.declared.first_form.FirstForm.{FirstForm}
 use Rattle.srmtrun.specs.FirstForm.{IsFirstForm}
 use Rattle.srmtrun.specs.Lowered.{put_code, tail_code, code_of, main_of, program_of}
+
+-- the rule of limits
+abbrev first : Option ℕ
+first = Some 1
 
 -- an instruction that leads to the next place alone, with the same open objects
 pub record Leads (mid : Mid) : Type 0 where
@@ -192,11 +196,12 @@ module _ (form : FirstForm) (few : length form.puts ≤ 20000) (ints : AllByRecu
       by_test true e = ap (λ mid. not (is_final mid)) (last_exits place l found (eqb-true (place + 1) (length (code_of form)) e))
 
   line_kept : (place : ℕ) (l : MidLine) → slice_get (code_of form) place ≡ Some l → instruction_rule (program_of form) 1 (main_of form) place l.mid ≡ None
-  unfolding instruction_rule
+  unfolding early_rule AreOurs
   line_kept place l found =
       let k = ours place l found in
       let params : (place == 0 && misfits_params (main_of form) (slice_get (program_of form).types (main_of form).ty)) ≡ false = no_param (place == 0) in
-      rw (k.bounded, k.registers, k.names, k.kinds, k.unmixed, k.jumps (code_of form) place, followed place l found, k.fits, params, in_order form (code_of form) place l ours found) refl
+      let early : early_rule (program_of form) 1 (main_of form) place l.mid ≡ None = rw (k.bounded, k.registers, k.names, k.kinds, k.unmixed, k.jumps (code_of form) place, followed place l found, k.fits, params) refl in
+      rw (early, in_order form (code_of form) place l ours found) refl
     where
       no_param : (b : Bool) → (b && false) ≡ false
       no_param true = refl
@@ -215,14 +220,14 @@ module _ (form : FirstForm) (few : length form.puts ≤ 20000) (ints : AllByRecu
   at_main : (place : ℕ) → function_rule (program_of form) 1 place (Some (main_of form)) ≡ None
   at_main place = rw main_kept (by_test (place == 0))
     where
-      by_test : (b : Bool) → (if b && false then Some 1 else line_rule (program_of form) 1 (main_of form) place (slice_get (code_of form) place)) ≡ None
+      by_test : (b : Bool) → (if b && false then first else line_rule (program_of form) 1 (main_of form) place (slice_get (code_of form) place)) ≡ None
       by_test true = lines_kept place (slice_get (code_of form) place) refl
       by_test false = lines_kept place (slice_get (code_of form) place) refl
 
   none_broken : (number place : ℕ) → rule_broken (program_of form) number place ≡ None
   none_broken zero place = by_test (place == 0)
     where
-      by_test : (b : Bool) → (if b && false then Some 1 else None) ≡ None
+      by_test : (b : Bool) → (if b && false then first else None) ≡ None
       by_test true = refl
       by_test false = refl
   none_broken (suc zero) place = at_main place

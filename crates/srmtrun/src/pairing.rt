@@ -1,7 +1,7 @@
 ghost use Rattle.std.specs.Prelude.{◌≡◌, ◌+◌, ◌<◌, ◌≤◌, [], ◌∷◌, ◌++◌, IfOk, OnOk};
 ghost use Rattle.mid_code.specs.Classes.{site_of, class_of, sites_of, site_count, classes_from, classes_of};
 ghost use Rattle.mid_code.specs.Pairs.{HasSites};
-ghost use Rattle.srmtrun.specs.Pairing.{leading_exchange, trailing_exchange};
+ghost use Rattle.srmtrun.specs.Pairing.{leading_exchange, trailing_exchange, sites_in};
 ghost use Rattle.mid_code.specs.Versions.{leading_ops, trailing_ops, with_line, version_code, leading_versions, trailing_versions};
 
 use mid_code::{
@@ -50,7 +50,7 @@ fn program_parts(alloc: Global, program: &MidProgram) -> Result<ProgramParts, Al
     let mut trailing = Items::new(alloc);
     let mut site = 1;
     for function in functions {
-        let parts = function_parts(alloc, function.code.as_slice(), site)?;
+        let parts = function_parts(alloc, program.main_functions, function.code.as_slice(), site)?;
         classes.push(parts.classes)?;
         leading.push(Version {
             code: parts.leading,
@@ -67,12 +67,17 @@ fn program_parts(alloc: Global, program: &MidProgram) -> Result<ProgramParts, Al
     })
 }
 
-fn function_parts(alloc: Global, code: &[MidLine], first: u32) -> Result<FunctionParts, AllocError>
-    requires { first + site_count code.now ≤ 65536 }
-    ensures classes { IfOk result (λ parts. parts.classes ≡ classes_from first code.now) }
-    ensures leading { IfOk result (λ parts. parts.leading ≡ version_code leading_ops first code.now) }
-    ensures trailing { IfOk result (λ parts. parts.trailing ≡ version_code trailing_ops first code.now) }
-    ensures next { IfOk result (λ parts. parts.next ≡ first + site_count code.now) }
+fn function_parts(
+    alloc: Global,
+    mains: u16,
+    code: &[MidLine],
+    first: u32,
+) -> Result<FunctionParts, AllocError>
+    requires { first + site_count mains code.now ≤ 65536 }
+    ensures classes { IfOk result (λ parts. parts.classes ≡ classes_from mains first code.now) }
+    ensures leading { IfOk result (λ parts. parts.leading ≡ version_code mains leading_ops first code.now) }
+    ensures trailing { IfOk result (λ parts. parts.trailing ≡ version_code mains trailing_ops first code.now) }
+    ensures next { IfOk result (λ parts. parts.next ≡ first + site_count mains code.now) }
 {
     let mut parts = FunctionParts {
         classes: Items::new(alloc),
@@ -81,22 +86,82 @@ fn function_parts(alloc: Global, code: &[MidLine], first: u32) -> Result<Functio
         next: first,
     };
     for line in code {
-        add_line(alloc, *line, &mut parts)?;
+        add_line(alloc, mains, *line, &mut parts)?;
     }
     Ok(parts)
 }
 
 // Adds an instruction to the parts of its function.
-fn add_line(alloc: Global, line: MidLine, parts: &mut FunctionParts) -> Result<(), AllocError>
-    requires { parts.old.next + sites_of line.mid ≤ 65536 }
-    ensures classes { OnOk result (parts.new.classes ≡ parts.old.classes ++ class_of parts.old.next line.mid ∷ []) }
+fn add_line(
+    alloc: Global,
+    mains: u16,
+    line: MidLine,
+    parts: &mut FunctionParts,
+) -> Result<(), AllocError>
+    requires { parts.old.next + sites_of mains line.mid ≤ 65536 }
+    ensures classes { OnOk result (parts.new.classes ≡ parts.old.classes ++ class_of mains parts.old.next line.mid ∷ []) }
     ensures leading { OnOk result (parts.new.leading ≡ parts.old.leading ++ with_line line.line (leading_ops parts.old.next line.mid)) }
     ensures trailing { OnOk result (parts.new.trailing ≡ parts.old.trailing ++ with_line line.line (trailing_ops parts.old.next line.mid)) }
-    ensures next { OnOk result (parts.new.next ≡ parts.old.next + sites_of line.mid) }
+    ensures next { OnOk result (parts.new.next ≡ parts.old.next + sites_of mains line.mid) }
+{
+    add_versions(alloc, mains, line, parts)?;
+    let class = class_of(mains, &line.mid, parts.next);
+    parts.next += sites_in(&class);
+    parts.classes.push(class)?;
+    Ok(())
+}
+
+// The class of an instruction, which takes this site if it takes one.
+fn class_of(mains: u16, mid: &Mid, site: u32) -> Class
+    requires { site + sites_of mains mid.now ≤ 65536 }
+    ensures { result ≡ class_of mains site mid.now }
+{
+    match mid {
+        Mid::VLoad { .. }
+        | Mid::VStore { .. }
+        | Mid::Put { .. }
+        | Mid::Get { .. }
+        | Mid::Exit { .. }
+        | Mid::CallPtr { .. } => Class::FailStop(Site(site as u16)),
+        Mid::Call { function, .. } => {
+            if *function > mains {
+                Class::FailStop(Site(site as u16))
+            } else {
+                Class::Repeatable
+            }
+        }
+        Mid::Load { .. } | Mid::Store { .. } | Mid::Open { .. } | Mid::Close { .. } => {
+            Class::NonRepeatable(Site(site as u16))
+        }
+        _ => Class::Repeatable,
+    }
+}
+
+// How many sites an instruction of a class takes.
+fn sites_in(class: &Class) -> u32
+    ensures { result ≡ sites_in class.now }
+{
+    match class {
+        Class::Repeatable => 0,
+        Class::NonRepeatable(_) | Class::FailStop(_) => 1,
+    }
+}
+
+// Adds what takes the place of an instruction in both versions.
+fn add_versions(
+    alloc: Global,
+    mains: u16,
+    line: MidLine,
+    parts: &mut FunctionParts,
+) -> Result<(), AllocError>
+    requires { parts.old.next + sites_of mains line.mid ≤ 65536 }
+    ensures classes { OnOk result (parts.new.classes ≡ parts.old.classes) }
+    ensures leading { OnOk result (parts.new.leading ≡ parts.old.leading ++ with_line line.line (leading_ops parts.old.next line.mid)) }
+    ensures trailing { OnOk result (parts.new.trailing ≡ parts.old.trailing ++ with_line line.line (trailing_ops parts.old.next line.mid)) }
+    ensures next { OnOk result (parts.new.next ≡ parts.old.next) }
 {
     match line.mid {
         Mid::Const { .. } | Mid::Conv { .. } => {
-            parts.classes.push(Class::Repeatable)?;
             parts.leading.push(copied(line))?;
             parts.trailing.push(copied(line))?;
         }
@@ -106,6 +171,8 @@ fn add_line(alloc: Global, line: MidLine, parts: &mut FunctionParts) -> Result<(
             let end = VersionOp::End { source };
             parts.trailing.push(version_line(line.line, end))?;
         }
+        // No other instruction has versions yet, nor occurs in a pair.
+        _ => {}
     }
     Ok(())
 }
@@ -119,14 +186,12 @@ fn add_exchange(
     parts: &mut FunctionParts,
 ) -> Result<(), AllocError>
     requires { parts.old.next < 65536 }
-    ensures classes { OnOk result (parts.new.classes ≡ parts.old.classes ++ Class.FailStop (site_of parts.old.next) ∷ []) }
+    ensures classes { OnOk result (parts.new.classes ≡ parts.old.classes) }
     ensures leading { OnOk result (parts.new.leading ≡ parts.old.leading ++ with_line line (leading_exchange (site_of parts.old.next) asks source)) }
     ensures trailing { OnOk result (parts.new.trailing ≡ parts.old.trailing ++ with_line line (trailing_exchange (site_of parts.old.next) source)) }
-    ensures next { OnOk result (parts.new.next ≡ parts.old.next + 1) }
+    ensures next { OnOk result (parts.new.next ≡ parts.old.next) }
 {
     let site = Site(parts.next as u16);
-    parts.next += 1;
-    parts.classes.push(Class::FailStop(site))?;
     let args = Items::from_slice(alloc, &[source])?;
     let ask = VersionOp::Ask { site, args };
     parts.leading.push(version_line(line, ask))?;

@@ -25,7 +25,7 @@ use crate::reading::read_first_form;
 use crate::words::{Mode, read_words};
 use mid_code::MidProgram;
 use mid_run::MidRun;
-use pair_core::Ran;
+use pair_core::{Duo, Ran, alternate};
 use srmt_base::{Limits, SourceEnd};
 use srmt_outside::{FileFault, Files, Outlet, Sink};
 use std::alloc::{AllocError, Global};
@@ -226,9 +226,9 @@ fn run_sides<O: Outlet>(
     ensures err { OnErr result (O.events outlet.new ≡ O.events outlet.old) }
     ensures never_falls { O.faults outlet.old ≤ O.faults outlet.new }
 {
-    let _pair = pair_of(alloc, program)?;
-    let _outlet = outlet;
-    Err(AllocError)
+    let pair = pair_of(alloc, program)?;
+    let mut duo = Duo::start(alloc, &pair, Vec::new(alloc), LIMITS)?;
+    Ok(alternate(&mut duo, &pair, outlet))
 }
 
 /// Runs a program on one thread, to its end or to the answer that stopped it.

@@ -1,6 +1,6 @@
 use Rattle.std.proofs.Common.{◌≡◌, ℕ, List, Err, refl, sym, ap, subst}
 use Rattle.std.proofs.lemmas.Result.{err_from_is_err_and}
-use Rattle.srmtrun.proofs.Serving.{refused_serves, refused_asks, run_serves}
+use Rattle.srmtrun.proofs.Serving.{refused_serves, refused_asks, run_serves, run_asks}
 use Rattle.srmtrun.specs.FirstForm.{IsFirstForm}
 use Rattle.srmtrun.specs.declared.first_form.FirstForm.{FirstForm}
 use Rattle.srmtrun.specs.declared.first_form.FormRefusal.TheVariants.{Form}
@@ -24,3 +24,6 @@ pub returns-clause-serves : goal.returns-clause-serves
 returns-clause-serves g c =
     let form = c.in_ok-program.ensures.ok in
     run_serves _ _ _ _ _ Single c.in_ok-source.source.items c.in_ok-source.ensures.told c.in_ok-source.ensures.within refl LIMITS c.in_ok-program.program form.0 (subst (λ (b : List ℕ). IsFirstForm b form.0) c.deref.ensures.value form.1) form.2 c.run.result c.run.ensures.ok c.run.ensures.err
+
+pub returns-clause-asks : goal.returns-clause-asks
+returns-clause-asks g c = run_asks c.run.result _ _ _ c.in_ok-source.ensures.asks

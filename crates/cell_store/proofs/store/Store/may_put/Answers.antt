@@ -13,7 +13,7 @@ returns-in_err-_at-clause-trap c =
     ap (λ (rows : List Row). reach_of true rows c.args.pointer) (sym c.deref.ensures.value) ∙ (sym c.reach.ensures ∙ c.in_err-_at.was) in
     let p = err_from_is_err_and c.from_residual.result c.from_residual.ensures.1 in
     rw (p.1, p.2) (λ (value : ℕ).
-      ap (λ (o : Objects). put_of o c.args.pointer value) (sym c.self.view_is) ∙ put_reached true s.budget s.fresh s.rows.items s.cells.items c.args.pointer value _ c.self.invariant.laid e)
+    ap (λ (o : Objects). put_of o c.args.pointer value) (sym c.self.view_is) ∙ put_reached true s.budget s.fresh s.rows.items s.cells.items c.args.pointer value _ c.self.invariant.laid e)
 
 pub returns-clause-ok : goal.returns-clause-ok
 returns-clause-ok c value =

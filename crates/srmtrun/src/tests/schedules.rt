@@ -1,0 +1,95 @@
+use super::pairs::{LIMITS, pair_from};
+use mid_code::Pair;
+use pair_core::{Duo, Ran, alternate};
+use srmt_base::Side;
+use srmt_outside::MemOutlet;
+use std::alloc::{AllocError, Global};
+use std::test::Fail;
+
+// Whose turn it is.
+#[derive(Clone, Copy, Debug)]
+enum Order {
+    // So many tries of one side, then so many of the other, and again.
+    Bursts(Side, u8, u8),
+    // By a sequence of numbers that looks random and is always the same.
+    Mixed(u64),
+}
+
+const ORDERS: [Order; 7] = [
+    Order::Bursts(Side::Lead, 40, 40),
+    Order::Bursts(Side::Trail, 40, 40),
+    Order::Bursts(Side::Lead, 1, 1),
+    Order::Bursts(Side::Trail, 1, 3),
+    Order::Mixed(1),
+    Order::Mixed(20_000_003),
+    Order::Mixed(987_654_321),
+];
+
+fn other(side: Side) -> Side {
+    match side {
+        Side::Lead => Side::Trail,
+        Side::Trail => Side::Lead,
+    }
+}
+
+fn side_of(order: Order, number: u32) -> Side {
+    match order {
+        Order::Bursts(first, many, few) => {
+            let round = (u32::from(many) + u32::from(few)).max(1);
+            if number % round < u32::from(many) {
+                first
+            } else {
+                other(first)
+            }
+        }
+        Order::Mixed(seed) => {
+            let mixed = seed
+                .wrapping_add(u64::from(number))
+                .wrapping_mul(0x9E37_79B9_7F4A_7C15);
+            if mixed / 4_294_967_296 % 2 == 0 {
+                Side::Lead
+            } else {
+                Side::Trail
+            }
+        }
+    }
+}
+
+// Makes tries in this order until both sides have ended.
+fn run_in(
+    alloc: Global,
+    pair: &Pair,
+    order: Order,
+    outlet: &mut MemOutlet,
+) -> Result<Option<Ran>, AllocError> {
+    let mut duo = Duo::start(alloc, pair, Vec::new(alloc), LIMITS)?;
+    for number in 0..500 {
+        if let Some(ran) = duo.ran() {
+            return Ok(Some(ran));
+        }
+        let _stepped = duo.act(pair, outlet, side_of(order, number));
+    }
+    Ok(None)
+}
+
+#[test]
+fn every_order_gives_the_same(rt: HostRuntime) -> Result<(), Fail> {
+    let sources: [&[u8]; 3] = [
+        b"int main(void){return 7;}",
+        b"int main(void) { putchar(65); return 0; }",
+        b"int main(void){putchar(66);putchar(321);return 300;}",
+    ];
+    for source in sources {
+        let pair = pair_from(rt.alloc(), source)?;
+        let mut outlet = MemOutlet::with_room(rt.alloc(), 3)?;
+        let mut duo = Duo::start(rt.alloc(), &pair, Vec::new(rt.alloc()), LIMITS)?;
+        let ran = alternate(&mut duo, &pair, &mut outlet);
+        for order in ORDERS {
+            let mut again = MemOutlet::with_room(rt.alloc(), 3)?;
+            let told = run_in(rt.alloc(), &pair, order, &mut again)?;
+            assert_eq!(rt; told, Some(ran), "{order:?}");
+            assert_eq!(rt; again.events(), outlet.events(), "{order:?}");
+        }
+    }
+    Ok(())
+}
