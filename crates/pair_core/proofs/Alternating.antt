@@ -162,7 +162,7 @@ rose_on before now a b c so_far first second step h =
 
 pub opening_fits : (program : MidProgram) (duo : DuoState) → HasSites program → IsOpening program duo → DuoFits program duo
 opening_fits program duo sites opening =
-    subst (DuoFits program) (sym opening.2) (record { lead = fits_opening Lead program sites.valid; trail = fits_opening Trail program sites.valid; world = refl })
+    subst (DuoFits program) (sym opening.2) (record { lead = fits_opening Lead program opening.1 sites; trail = fits_opening Trail program opening.1 sites; world = refl })
 
 pub opening_goes : (program : MidProgram) (duo : DuoState) (end : _) → IsOpening program duo → duo.lead ≡ Ended end → ⊥
-opening_goes program duo end opening h = let clash : Went (opening_side program) ≡ Ended end = sym (ap (λ d. d.lead) opening.2) ∙ h in cc
+opening_goes program duo end opening h = let clash : Went (opening_side program opening.1) ≡ Ended end = sym (ap (λ d. d.lead) opening.2) ∙ h in cc

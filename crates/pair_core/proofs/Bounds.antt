@@ -6,7 +6,7 @@ use Rattle.srmt_base.specs.declared.trap.SourceEnd.{SourceEnd}
 use Rattle.srmt_base.specs.declared.trap.SourceEnd.TheVariants.{Exit as SourceExit, Trap as SourceTrap}
 use Rattle.mid_code.specs.declared.program.MidProgram.{MidProgram}
 use Rattle.mid_code.specs.Machine.{Machine}
-use Rattle.mid_code.specs.Valid.{IsValid}
+use Rattle.mid_code.specs.Pairs.{HasSites}
 use Rattle.word_stream.specs.declared.request.Request.{Request}
 use Rattle.word_stream.specs.Exchange.{checks_of, acks_of}
 use Rattle.world.specs.World.{ask}
@@ -40,16 +40,16 @@ pub not_fault : (end : SourceEnd) → end_as end ≡ WriteFault → ⊥
 not_fault (SourceExit status) h = cc
 not_fault (SourceTrap trap line) h = cc
 
-module _ (program : MidProgram) (input : List ℕ) (limits : Limits) (valid : IsValid program) where
+module _ (program : MidProgram) (input : List ℕ) (limits : Limits) (sites : HasSites program) where
   -- after a request was checked
   asked_words : (i : ℕ) (m : Machine) (q : Request) → (ideal program input limits i).place ≡ Here m → wants program m ≡ Requests q → (ideal program input limits (suc i)).words ≡ (ideal program input limits i).words ++ checks_of q
-  asked_words i m q here h = ap (λ d. d.words) (next_asks program (ideal program input limits i) m q here (stands_point program input limits valid i m here) h)
+  asked_words i m q here h = ap (λ d. d.words) (next_asks program (ideal program input limits i) m q here (stands_point program input limits sites i m here) h)
 
   asked_echoes : (i : ℕ) (m : Machine) (q : Request) → (ideal program input limits i).place ≡ Here m → wants program m ≡ Requests q → (ideal program input limits (suc i)).echoes ≡ (ideal program input limits i).echoes ++ acks_of q
-  asked_echoes i m q here h = ap (λ d. d.echoes) (next_asks program (ideal program input limits i) m q here (stands_point program input limits valid i m here) h)
+  asked_echoes i m q here h = ap (λ d. d.echoes) (next_asks program (ideal program input limits i) m q here (stands_point program input limits sites i m here) h)
 
   asked_events : (i : ℕ) (m : Machine) (q : Request) → (ideal program input limits i).place ≡ Here m → wants program m ≡ Requests q → (ideal program input limits (suc i)).events ≡ (ideal program input limits i).events ++ (ask (ideal program input limits i).world q).events
-  asked_events i m q here h = ap (λ d. d.events) (next_asks program (ideal program input limits i) m q here (stands_point program input limits valid i m here) h)
+  asked_events i m q here h = ap (λ d. d.events) (next_asks program (ideal program input limits i) m q here (stands_point program input limits sites i m here) h)
 
   -- the leading side
   module _ (i : ℕ) (past : Past) where
@@ -101,13 +101,13 @@ module _ (program : MidProgram) (input : List ℕ) (limits : Limits) (valid : Is
         where
           start_takes : (x : Wants) → wants program m ≡ x → ⊥
           start_takes (Runs next) h =
-              let stands = stands_point program input limits valid i m here in
+              let stands = stands_point program input limits sites i m here in
               let no : true ≡ false = sym takes ∙ ap (λ t. takes_at (side_op Lead program t)) (lead_known _ shows.at_so) ∙ lead_runs_takes program m stands (next_line program m stands) next h in cc
-          start_takes (Dies trap line) h = let stands = stands_point program input limits valid i m here in never_dies program m stands (next_line program m stands) trap line h
+          start_takes (Dies trap line) h = let stands = stands_point program input limits sites i m here in never_dies program m stands (next_line program m stands) trap line h
           start_takes (Requests q) h =
-              let stands = stands_point program input limits valid i m here in
+              let stands = stands_point program input limits sites i m here in
               let no : true ≡ false = sym takes ∙ ap (λ t. takes_at (side_op Lead program t)) (lead_known _ shows.at_so) ∙ lead_asks_takes program m stands q h in cc
-          start_takes Lost h = let stands = stands_point program input limits valid i m here in never_lost program m stands (next_line program m stands) h
+          start_takes Lost h = let stands = stands_point program input limits sites i m here in never_lost program m stands (next_line program m stands) h
       lead_hearing (LeadAwaits m q heard x rest here h acks shows) takes =
           let all : (ideal program input limits (suc i)).echoes ≡ ((ideal program input limits i).echoes ++ heard) ++ x ∷ rest =
           asked_echoes i m q here h ∙ ap (λ t. (ideal program input limits i).echoes ++ t) acks ∙ sym (append_assoc (ideal program input limits i).echoes heard (x ∷ rest)) in (
@@ -115,7 +115,7 @@ module _ (program : MidProgram) (input : List ℕ) (limits : Limits) (valid : Is
             omega (arith, ap length all, ap length shows.took_so, length-append ((ideal program input limits i).echoes ++ heard) (x ∷ rest)),
           )
       lead_hearing (LeadActs m q here h shows) takes =
-          let stands = stands_point program input limits valid i m here in
+          let stands = stands_point program input limits sites i m here in
           let no : true ≡ false = sym takes ∙ ap (λ t. takes_at (side_op Lead program t)) (lead_known _ shows.at_so) ∙ lead_acts_takes program m stands q h in absurd (cc)
       lead_hearing (LeadEnded end ended shows) takes = let both : Went s ≡ Ended (end_as end) = sym at ∙ shows.at_so in absurd (cc)
       lead_hearing (LeadFailed m q written here h shows) takes = let both : Went s ≡ Ended WriteFault = sym at ∙ shows.at_so in absurd (cc)
@@ -123,7 +123,7 @@ module _ (program : MidProgram) (input : List ℕ) (limits : Limits) (valid : Is
       pub lead_resting : LeadAt program (ideal program input limits i) past → takes_at (side_op Lead program s) ≡ false → Rests
       lead_resting (LeadStarts m here shows) takes = (i, shows.sent_so, shows.took_so)
       lead_resting (LeadAwaits m q heard x rest here h acks shows) takes =
-          let stands = stands_point program input limits valid i m here in
+          let stands = stands_point program input limits sites i m here in
           let no : false ≡ true = sym takes ∙ ap (λ t. takes_at (side_op Lead program t)) (lead_known _ shows.at_so) ∙ lead_hears_takes program m stands q h heard in absurd (cc)
       lead_resting (LeadActs m q here h shows) takes = (suc i, shows.sent_so ∙ sym (asked_words i m q here h), shows.took_so ∙ sym (asked_echoes i m q here h))
       lead_resting (LeadEnded end ended shows) takes = let both : Went s ≡ Ended (end_as end) = sym at ∙ shows.at_so in absurd (cc)
@@ -175,21 +175,21 @@ module _ (program : MidProgram) (input : List ℕ) (limits : Limits) (valid : Is
         where
           start_takes : (x : Wants) → wants program m ≡ x → length past.took < length (ideal program input limits (suc j)).words
           start_takes (Runs next) h =
-              let stands = stands_point program input limits valid j m here in
+              let stands = stands_point program input limits sites j m here in
               let no : true ≡ false = sym takes ∙ ap (λ t. takes_at (side_op Trail program t)) (trail_known _ tells.at_so) ∙ trail_runs_takes program m stands (next_line program m stands) next h in absurd (cc)
-          start_takes (Dies trap line) h = let stands = stands_point program input limits valid j m here in absurd (never_dies program m stands (next_line program m stands) trap line h)
+          start_takes (Dies trap line) h = let stands = stands_point program input limits sites j m here in absurd (never_dies program m stands (next_line program m stands) trap line h)
           start_takes (Requests q) h =
-              let stands = stands_point program input limits valid j m here in
+              let stands = stands_point program input limits sites j m here in
               let some = checks_some program m stands q h in
               omega (arith, ap length tells.took_so, ap length (asked_words j m q here h), length-append (ideal program input limits j).words (checks_of q), ap length some.2)
-          start_takes Lost h = let stands = stands_point program input limits valid j m here in absurd (never_lost program m stands (next_line program m stands) h)
+          start_takes Lost h = let stands = stands_point program input limits sites j m here in absurd (never_lost program m stands (next_line program m stands) h)
       trail_checking (TrailChecks m q done x rest here h checks tells) takes =
           omega (arith, ap length tells.took_so, ap length (asked_words j m q here h), length-append (ideal program input limits j).words (checks_of q), length-append (ideal program input limits j).words done, ap length checks, length-append done (x ∷ rest))
       trail_checking (TrailAcks m q here h tells) takes =
-          let stands = stands_point program input limits valid j m here in
+          let stands = stands_point program input limits sites j m here in
           let no : true ≡ false = sym takes ∙ ap (λ t. takes_at (side_op Trail program t)) (trail_known _ tells.at_so) ∙ trail_acks_takes program m stands q h in absurd (cc)
       trail_checking (TrailEnding m q r end owed h over tells) takes =
-          let stands = stands_owed program input limits valid j m r owed in
+          let stands = stands_owed program input limits sites j m r owed in
           let no : true ≡ false = sym takes ∙ ap (λ t. takes_at (side_op Trail program t)) (trail_known _ tells.at_so) ∙ trail_ends_takes program m stands q h r end over in absurd (cc)
       trail_checking (TrailEnded end ended tells) takes = let both : Went s ≡ Ended (end_as end) = sym at ∙ tells.at_so in absurd (cc)
       trail_checking (TrailGone m q done x rest here h checks tells gone) takes = let both : Went s ≡ Ended PeerEnded = sym at ∙ tells.at_so in absurd (cc)
@@ -201,25 +201,25 @@ module _ (program : MidProgram) (input : List ℕ) (limits : Limits) (valid : Is
         where
           start_sends : (x : Wants) → wants program m ≡ x → ⊥
           start_sends (Runs next) h =
-              let stands = stands_point program input limits valid j m here in
+              let stands = stands_point program input limits sites j m here in
               let no : true ≡ false = sym sends ∙ ap (λ t. may_send_at (side_op Trail program t)) (trail_known _ tells.at_so) ∙ trail_runs_sends program m stands (next_line program m stands) next h in cc
-          start_sends (Dies trap line) h = let stands = stands_point program input limits valid j m here in never_dies program m stands (next_line program m stands) trap line h
+          start_sends (Dies trap line) h = let stands = stands_point program input limits sites j m here in never_dies program m stands (next_line program m stands) trap line h
           start_sends (Requests q) h =
-              let stands = stands_point program input limits valid j m here in
+              let stands = stands_point program input limits sites j m here in
               let some = checks_some program m stands q h in
               let no : false ≡ true = sym takes ∙ ap (λ t. takes_at (side_op Trail program t)) (trail_known _ tells.at_so) ∙ trail_checks_takes program m stands q h [] some.0 some.1 some.2 in cc
-          start_sends Lost h = let stands = stands_point program input limits valid j m here in never_lost program m stands (next_line program m stands) h
+          start_sends Lost h = let stands = stands_point program input limits sites j m here in never_lost program m stands (next_line program m stands) h
       trail_acking (TrailChecks m q done x rest here h checks tells) takes sends =
-          let stands = stands_point program input limits valid j m here in
+          let stands = stands_point program input limits sites j m here in
           let no : false ≡ true = sym takes ∙ ap (λ t. takes_at (side_op Trail program t)) (trail_known _ tells.at_so) ∙ trail_checks_takes program m stands q h done x rest checks in absurd (cc)
       trail_acking (TrailAcks m q here h tells) takes sends =
-          let stands = stands_point program input limits valid j m here in
+          let stands = stands_point program input limits sites j m here in
           let some = checks_some program m stands q h in (
             tells.took_so ∙ sym (asked_words j m q here h),
             omega (arith, ap length (asked_words j m q here h), length-append (ideal program input limits j).words (checks_of q), ap length some.2),
           )
       trail_acking (TrailEnding m q r end owed h over tells) takes sends =
-          let stands = stands_owed program input limits valid j m r owed in
+          let stands = stands_owed program input limits sites j m r owed in
           let no : true ≡ false = sym sends ∙ ap (λ t. may_send_at (side_op Trail program t)) (trail_known _ tells.at_so) ∙ trail_ends_sends program m stands q h r end over in absurd (cc)
       trail_acking (TrailEnded end ended tells) takes sends = let both : Went s ≡ Ended (end_as end) = sym at ∙ tells.at_so in absurd (cc)
       trail_acking (TrailGone m q done x rest here h checks tells gone) takes sends = let both : Went s ≡ Ended PeerEnded = sym at ∙ tells.at_so in absurd (cc)

@@ -9,8 +9,8 @@ use Rattle.mid_code.specs.declared.program.MidProgram.{MidProgram}
 use Rattle.mid_code.specs.declared.version.Version.{Version}
 use Rattle.mid_code.specs.declared.version.VersionLine.{VersionLine}
 use Rattle.mid_code.specs.Pairs.{HasSites}
-use Rattle.mid_code.specs.Valid.{IsValid}
-use Rattle.mid_code.proofs.Fitting.{one_within}
+use Rattle.mid_code.specs.Start.{started_machine}
+use Rattle.mid_code.proofs.Values.{one_within}
 use Rattle.machine.specs.Side.{SideState, Plain, Outcome, Went, Ended}
 use Rattle.machine.specs.Steps.{versions_of, side_op, takes_at}
 use Rattle.machine.specs.Meets.{next_of, CanMeet}
@@ -39,11 +39,11 @@ trail_sum a b n l r k bound e less c = omega arith
 more_words : (w a n : ℕ) → w ≤ 18 * a → n ≤ 18 → w + n ≤ 18 * (a + 1)
 more_words w a n h few = omega arith
 
-module _ (program : MidProgram) (input : List ℕ) (limits : Limits) (valid : IsValid program) (duo : DuoState) (events : List Event) (g : Good program input limits duo events) (c : Counted program duo) where
+module _ (program : MidProgram) (input : List ℕ) (limits : Limits) (sites : HasSites program) (duo : DuoState) (events : List Event) (g : Good program input limits duo events) (c : Counted program duo) where
   lead_counted : (s : SideState) → duo.lead ≡ Went s → (f : Finds) → IsFound (takes_at (side_op Lead program s)) (length (next_of Lead program s duo.world Plain).events) (view_of Lead duo) f → Counted program (turn_found f Lead program s duo).state
   lead_counted s at Waits h = c
   lead_counted s at (Meets meet left) h =
-      let own = lead_lowers program input limits valid g.i g.lead s (sym g.is_lead ∙ at) meet g.lead_at (subst (λ w. CanMeet Lead program s w meet) g.is_world h.0) (lead_meets program input limits valid duo events g s at meet left h.0 h.1 h.2) in
+      let own = lead_lowers program input limits sites g.i g.lead s (sym g.is_lead ∙ at) meet g.lead_at (subst (λ w. CanMeet Lead program s w meet) g.is_world h.0) (lead_meets program input limits sites duo events g s at meet left h.0 h.1 h.2) in
       let lower : LowerBy program Lead s (next_of Lead program s duo.world meet) = subst (λ w. LowerBy program Lead s (next_of Lead program s w meet)) (sym g.is_world) own in
       record {
         steps = lead_sum duo.lead_steps duo.trail_steps _ _ (side_left program Trail duo.trail) _ step_bound (ap (side_left program Lead) at) lower.less c.steps;
@@ -54,7 +54,7 @@ module _ (program : MidProgram) (input : List ℕ) (limits : Limits) (valid : Is
   trail_counted : (s : SideState) → duo.trail ≡ Went s → (f : Finds) → IsFound (takes_at (side_op Trail program s)) (length (next_of Trail program s duo.world Plain).events) (view_of Trail duo) f → Counted program (turn_found f Trail program s duo).state
   trail_counted s at Waits h = c
   trail_counted s at (Meets meet left) h =
-      let own = trail_lowers program input limits valid g.j g.trail s (sym g.is_trail ∙ at) meet (Quits g.lead) g.trail_at (can_trail program input limits valid duo events g s at meet left h.0 h.1 h.2) (trail_meets program input limits valid duo events g s at meet left h.0 h.1 h.2) in
+      let own = trail_lowers program input limits sites g.j g.trail s (sym g.is_trail ∙ at) meet (Quits g.lead) g.trail_at (can_trail program input limits sites duo events g s at meet left h.0 h.1 h.2) (trail_meets program input limits sites duo events g s at meet left h.0 h.1 h.2) in
       let same = alike program s duo.world g.trail.world meet in
       let less : side_left program Trail (next_of Trail program s duo.world meet).outcome < side_left program Trail (Went s) = subst (λ o. side_left program Trail o < side_left program Trail (Went s)) (sym same.outcome) own.less in
       let few : length (next_of Trail program s duo.world meet).sent ≤ 18 = subst (λ t. length t ≤ 18) (sym same.sent) own.few in
@@ -77,7 +77,7 @@ module _ (program : MidProgram) (input : List ℕ) (limits : Limits) (valid : Is
   turn_counted Trail fails = trail_turned fails duo.trail refl
 
 -- no version is long
-module _ (side : Side) (program : MidProgram) (valid : IsValid program) where
+module _ (side : Side) (program : MidProgram) (sites : HasSites program) where
   short_one : (function : ℕ) (o : Option Version) → ((place : ℕ) (l : VersionLine) → option_and_then (λ v. slice_get v.code place) o ≡ Some l → place < 2 ^ 18) → long_of o ≤ 2 ^ 18
   short_one function None small = omega arith
   short_one function (Some v) small =
@@ -92,12 +92,12 @@ module _ (side : Side) (program : MidProgram) (valid : IsValid program) where
   short_version : (function : ℕ) → version_long (versions_of side program) function ≤ 2 ^ 18
   short_version zero = omega arith
   short_version (suc before) =
-      short_one (suc before) (slice_get (versions_of side program) before) (λ place l at. (placed side program (suc before) place l valid at).small)
+      short_one (suc before) (slice_get (versions_of side program) before) (λ place l at. (placed side program (suc before) place l sites at).small)
 
 module _ (program : MidProgram) (input : List ℕ) (limits : Limits) (sites : HasSites program) where
   counted_opening : Counted program (opening_duo program input limits)
   counted_opening = record {
-    steps = omega (arith, short_version Lead program sites.valid program.main, short_version Trail program sites.valid program.main);
+    steps = omega (arith, short_version Lead program sites (started_machine program limits).top.function, short_version Trail program sites (started_machine program limits).top.function);
     words = omega arith;
     acks = omega arith;
   }
@@ -106,11 +106,11 @@ module _ (program : MidProgram) (input : List ℕ) (limits : Limits) (sites : Ha
   counted_run [] sofar g c = c
   counted_run (entry ∷ entries) sofar g c =
       counted_run entries (record { duo = (turn_of program entry.side entry.fails sofar.duo).state; events = sofar.events ++ (turn_of program entry.side entry.fails sofar.duo).events })
-      (good_turn program input limits sites.valid sofar.duo sofar.events g entry.side entry.fails)
-      (turn_counted program input limits sites.valid sofar.duo sofar.events g c entry.side entry.fails)
+      (good_turn program input limits sites sofar.duo sofar.events g entry.side entry.fails)
+      (turn_counted program input limits sites sofar.duo sofar.events g c entry.side entry.fails)
 
   pub counted_scheduled : (entries : List Entry) → Counted program (scheduled program input limits entries).duo
-  counted_scheduled entries = counted_run entries (record { duo = opening_duo program input limits; events = [] }) (good_opening program input limits sites.valid) counted_opening
+  counted_scheduled entries = counted_run entries (record { duo = opening_duo program input limits; events = [] }) (good_opening program input limits sites) counted_opening
 
   pub counted_reached : (duo : DuoState) (events : List Event) → Reached program input limits duo events → Counted program duo
   counted_reached duo events reached = subst (λ x. Counted program x.duo) reached.1 (counted_scheduled reached.0)

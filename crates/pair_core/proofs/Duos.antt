@@ -8,9 +8,9 @@ use Rattle.srmt_base.specs.declared.side.Side.TheVariants.{Lead, Trail}
 use Rattle.srmt_base.specs.declared.trap.SourceEnd.{SourceEnd}
 use Rattle.mid_code.specs.declared.program.MidFunction.{MidFunction}
 use Rattle.mid_code.specs.declared.program.MidProgram.{MidProgram}
-use Rattle.mid_code.specs.Meaning.{started}
+use Rattle.mid_code.specs.Start.{started_machine}
 use Rattle.mid_code.specs.Program.{function_at}
-use Rattle.mid_code.specs.Valid.{IsValid}
+use Rattle.mid_code.specs.Pairs.{HasSites}
 use Rattle.mid_code.specs.declared.mid.Mid.{Mid}
 use Rattle.mid_code.specs.declared.version.VersionOp.{VersionOp}
 use Rattle.mid_code.specs.Versions.{leading_ops, trailing_ops}
@@ -22,7 +22,7 @@ use Rattle.machine.specs.Meets.{MeetsBy, next_of, CanMeet}
 use Rattle.pair_core.specs.History.{Past, opening_past, word_met, grown, HasPast}
 use Rattle.pair_core.specs.Duo.{DuoState, opening_duo, is_over, view_of, Finds, Waits, Meets, finds, put_on, made, turn_found, turn_at, turn_of, Entry, Scheduled, run_on, scheduled}
 use Rattle.pair_core.proofs.Prefixes.{none_added, prefix_length, prefix_trans}
-use Rattle.pair_core.proofs.Groups.{group_start, put_at, within_group}
+use Rattle.pair_core.proofs.Groups.{group_start, put_at, within_group, with_main}
 use Rattle.pair_core.proofs.Ideals.{grows, below_end}
 use Rattle.pair_core.proofs.Lead.{LeadAt, LeadStarts, LeadMeets, lead_step}
 use Rattle.pair_core.proofs.Trail.{TrailAt, TrailStarts, TrailMeets, trail_as, trail_step}
@@ -65,9 +65,13 @@ none_before : (ops : ℕ → Mid → List VersionOp) (program : MidProgram) (fun
 none_before ops program function None = omega arith
 none_before ops program function (Some f) = omega arith
 
-module _ (program : MidProgram) (input : List ℕ) (limits : Limits) (valid : IsValid program) where
-  starts_group : (ops : ℕ → Mid → List VersionOp) → started program ≡ within_group ops program (started program) 0
-  starts_group ops = ap (λ p. put_at p (started program)) (none_before ops program program.main (function_at program program.main))
+starts_by : (ops : ℕ → Mid → List VersionOp) (program : MidProgram) (limits : Limits) (f : Option MidFunction) → with_main program limits f ≡ within_group ops program (with_main program limits f) 0
+starts_by ops program limits None = ap (λ p. put_at p (with_main program limits None)) (none_before ops program program.main (function_at program program.main))
+starts_by ops program limits (Some f) = ap (λ p. put_at p (with_main program limits (Some f))) (none_before ops program program.main (function_at program program.main))
+
+module _ (program : MidProgram) (input : List ℕ) (limits : Limits) (sites : HasSites program) where
+  starts_group : (ops : ℕ → Mid → List VersionOp) → started_machine program limits ≡ within_group ops program (started_machine program limits) 0
+  starts_group ops = starts_by ops program limits (function_at program program.main)
 
   pub good_opening : Good program input limits (opening_duo program input limits) []
   good_opening = record {
@@ -77,8 +81,8 @@ module _ (program : MidProgram) (input : List ℕ) (limits : Limits) (valid : Is
     j = 0;
     lead_past = refl;
     trail_past = refl;
-    lead_at = LeadStarts (started program) refl (record { at_so = ap (λ m. Went (record { machine = m; heard = [] })) (starts_group leading_ops); world_so = refl; took_so = refl; sent_so = refl; events_so = refl });
-    trail_at = TrailStarts (started program) refl (record { at_so = ap (λ m. Went (record { machine = m; heard = [] })) (starts_group trailing_ops); took_so = refl; sent_so = refl });
+    lead_at = LeadStarts (started_machine program limits) refl (record { at_so = ap (λ m. Went (record { machine = m; heard = [] })) (starts_group leading_ops); world_so = refl; took_so = refl; sent_so = refl; events_so = refl });
+    trail_at = TrailStarts (started_machine program limits) refl (record { at_so = ap (λ m. Went (record { machine = m; heard = [] })) (starts_group trailing_ops); took_so = refl; sent_so = refl });
     is_lead = refl;
     is_trail = refl;
     is_world = refl;
@@ -93,24 +97,24 @@ module _ (program : MidProgram) (input : List ℕ) (limits : Limits) (valid : Is
     -- a trailing side that has ended beside a leading side that has not has ended as the ideal run
     trail_done : (s : SideState) → duo.lead ≡ Went s → is_over duo.trail ≡ true → (end : SourceEnd) × ((ideal program input limits g.j).place ≡ PlaceEnded end) × (g.trail.took ≡ (ideal program input limits g.j).words)
     trail_done s at over =
-        elim (trail_final program input limits valid g.j (Quits g.lead) g.trail g.trail_at (ap is_over (sym g.is_trail) ∙ over)) as (λ _. (end : SourceEnd) × ((ideal program input limits g.j).place ≡ PlaceEnded end) × (g.trail.took ≡ (ideal program input limits g.j).words)) [
+        elim (trail_final program input limits sites g.j (Quits g.lead) g.trail g.trail_at (ap is_over (sym g.is_trail) ∙ over)) as (λ _. (end : SourceEnd) × ((ideal program input limits g.j).place ≡ PlaceEnded end) × (g.trail.took ≡ (ideal program input limits g.j).words)) [
           | inl done ↦ (done.0, done.1, done.3)
           | inr quit ↦ let both : Went s ≡ Ended WriteFault = sym at ∙ g.is_lead ∙ quit.0 in absurd (cc)
         ]
 
     -- an acknowledgement that comes is right, and the link of the leading side is never closed
-    pub lead_meets : (s : SideState) → duo.lead ≡ Went s → (meet : Meet) (left : List ℕ) → CanMeet Lead program s duo.world meet → duo.acks ≡ word_met meet ++ left → (meet ≡ Closed → (is_over duo.trail ≡ true) × (duo.acks ≡ [])) → LeadMeets program input limits valid g.lead meet
+    pub lead_meets : (s : SideState) → duo.lead ≡ Went s → (meet : Meet) (left : List ℕ) → CanMeet Lead program s duo.world meet → duo.acks ≡ word_met meet ++ left → (meet ≡ Closed → (is_over duo.trail ≡ true) × (duo.acks ≡ [])) → LeadMeets program input limits sites g.lead meet
     lead_meets s at Plain left can coming closed = tt
     lead_meets s at (Failed written) left can coming closed = tt
     lead_meets s at (Got word) left can coming closed =
-        let sent = trail_echoes program input limits valid g.j (Quits g.lead) g.trail g.trail_at in
+        let sent = trail_echoes program input limits sites g.j (Quits g.lead) g.trail g.trail_at in
         (g.j, (left, sym sent ∙ taken_way g.trail.sent g.lead.took duo.acks (word ∷ []) left g.acks coming))
     lead_meets s at Closed left can coming closed =
         let done = trail_done s at (closed refl).0 in
-        let hears = lead_hearing program input limits valid g.i g.lead s (sym g.is_lead ∙ at) g.lead_at can in
-        let grown = (below_end program input limits valid g.j (suc g.i) done.0 done.1).echoes in
+        let hears = lead_hearing program input limits sites g.i g.lead s (sym g.is_lead ∙ at) g.lead_at can in
+        let grown = (below_end program input limits sites g.j (suc g.i) done.0 done.1).echoes in
         let short = prefix_length _ _ grown in
-        let all = trail_echoes program input limits valid g.j (Quits g.lead) g.trail g.trail_at in
+        let all = trail_echoes program input limits sites g.j (Quits g.lead) g.trail g.trail_at in
         absurd (omega (arith, hears.1, short, ap length all, ap length g.acks, length-append g.lead.took duo.acks, ap length (closed refl).1))
 
     module _ (s : SideState) (at : duo.lead ≡ Went s) (meet : Meet) (left : List ℕ) (can : CanMeet Lead program s duo.world meet) (coming : duo.acks ≡ word_met meet ++ left) (closed : meet ≡ Closed → (is_over duo.trail ≡ true) × (duo.acks ≡ [])) where
@@ -123,15 +127,15 @@ module _ (program : MidProgram) (input : List ℕ) (limits : Limits) (valid : Is
       lead_next_at : (k : ℕ) × LeadAt program (ideal program input limits k) lead_after
       lead_next_at =
           let can' : CanMeet Lead program s g.lead.world meet = subst (λ w. CanMeet Lead program s w meet) g.is_world can in
-          let next = lead_step program input limits valid g.i g.lead s (sym g.is_lead ∙ at) g.lead_at meet can' (lead_meets s at meet left can coming closed) in
+          let next = lead_step program input limits sites g.i g.lead s (sym g.is_lead ∙ at) g.lead_at meet can' (lead_meets s at meet left can coming closed) in
           (next.0, subst (λ w. LeadAt program (ideal program input limits next.0) (grown g.lead meet (next_of Lead program s w meet))) (sym g.is_world) next.1)
 
       -- nothing is dropped
       lead_drops_none : is_over duo.trail ≡ true → lead_gives.sent ≡ []
       lead_drops_none over =
           let done = trail_done s at over in
-          let more = lead_words program input limits valid lead_next_at.0 lead_after lead_next_at.1 in
-          let far = prefix_length _ _ (below_end program input limits valid g.j more.0 done.0 done.1).words in
+          let more = lead_words program input limits sites lead_next_at.0 lead_after lead_next_at.1 in
+          let far = prefix_length _ _ (below_end program input limits sites g.j more.0 done.0 done.1).words in
           let near = prefix_length _ _ more.1 in
           none_added g.lead.sent lead_gives.sent (omega (arith, near, far, ap length done.2, ap length g.words, length-append g.trail.took duo.words))
 
@@ -159,21 +163,21 @@ module _ (program : MidProgram) (input : List ℕ) (limits : Limits) (valid : Is
     -- a word that comes is right, and where none will come an event has failed
     trail_closes : (s : SideState) → duo.trail ≡ Went s → takes_at (side_op Trail program s) ≡ true → is_over duo.lead ≡ true → duo.words ≡ [] → Quits g.lead (g.trail.took ++ [])
     trail_closes s at takes over none =
-        let final = lead_final program input limits valid g.i g.lead g.lead_at (ap is_over (sym g.is_lead) ∙ over) in
-        let checks = trail_checking program input limits valid g.j (Quits g.lead) g.trail s (sym g.is_trail ∙ at) g.trail_at takes in
+        let final = lead_final program input limits sites g.i g.lead g.lead_at (ap is_over (sym g.is_lead) ∙ over) in
+        let checks = trail_checking program input limits sites g.j (Quits g.lead) g.trail s (sym g.is_trail ∙ at) g.trail_at takes in
         let all : g.trail.took ++ [] ≡ g.lead.sent = sym (g.words ∙ ap (λ t. g.trail.took ++ t) none) in
         elim final.3 as (λ _. Quits g.lead (g.trail.took ++ [])) [
           | inl ended ↦
-              let far = prefix_length _ _ (below_end program input limits valid final.0 (suc g.j) ended.0 ended.1).words in
+              let far = prefix_length _ _ (below_end program input limits sites final.0 (suc g.j) ended.0 ended.1).words in
               absurd (omega (arith, checks, far, ap length final.1, ap length all, length-append g.trail.took []))
           | inr fault ↦ (fault, all)
         ]
 
-    pub trail_meets : (s : SideState) → duo.trail ≡ Went s → (meet : Meet) (left : List ℕ) → CanMeet Trail program s duo.world meet → duo.words ≡ word_met meet ++ left → (meet ≡ Closed → (is_over duo.lead ≡ true) × (duo.words ≡ [])) → TrailMeets program input limits valid (Quits g.lead) g.trail meet
+    pub trail_meets : (s : SideState) → duo.trail ≡ Went s → (meet : Meet) (left : List ℕ) → CanMeet Trail program s duo.world meet → duo.words ≡ word_met meet ++ left → (meet ≡ Closed → (is_over duo.lead ≡ true) × (duo.words ≡ [])) → TrailMeets program input limits sites (Quits g.lead) g.trail meet
     trail_meets s at Plain left can coming closed = tt
     trail_meets s at (Failed written) left can coming closed = tt
     trail_meets s at (Got word) left can coming closed =
-        let more = lead_words program input limits valid g.i g.lead g.lead_at in
+        let more = lead_words program input limits sites g.i g.lead g.lead_at in
         (more.0, prefix_trans (g.trail.took ++ word ∷ []) g.lead.sent _ (left, taken_way g.lead.sent g.trail.took duo.words (word ∷ []) left g.words coming) more.1)
     trail_meets s at Closed left can coming closed = trail_closes s at can (closed refl).0 (closed refl).1
 
@@ -188,20 +192,20 @@ module _ (program : MidProgram) (input : List ℕ) (limits : Limits) (valid : Is
       can_trail = subst (λ n. MeetsBy (takes_at (side_op Trail program s)) n meet) (ap length (alike program s duo.world g.trail.world Plain).events) can
 
       trail_next_at : (k : ℕ) × TrailAt program (ideal program input limits k) (Quits g.lead) trail_after
-      trail_next_at = trail_step program input limits valid (Quits g.lead) g.j g.trail s (sym g.is_trail ∙ at) g.trail_at meet can_trail (trail_meets s at meet left can coming closed)
+      trail_next_at = trail_step program input limits sites (Quits g.lead) g.j g.trail s (sym g.is_trail ∙ at) g.trail_at meet can_trail (trail_meets s at meet left can coming closed)
 
       paced_at : (k l : ℕ) → length (ideal program input limits l).words ≤ length (ideal program input limits k).words → length (ideal program input limits l).echoes ≤ length (ideal program input limits k).echoes
       paced_at k l short =
           elim (cases_lt k l) as (λ _. length (ideal program input limits l).echoes ≤ length (ideal program input limits k).echoes) [
-            | inl less ↦ omega (arith, short, (grows program input limits valid k l (omega arith)).paced)
-            | inr more ↦ prefix_length _ _ (grows program input limits valid l k more).echoes
+            | inl less ↦ omega (arith, short, (grows program input limits sites k l (omega arith)).paced)
+            | inr more ↦ prefix_length _ _ (grows program input limits sites l k more).echoes
           ]
 
       trail_drops_none : is_over duo.lead ≡ true → trail_gives.sent ≡ []
       trail_drops_none over =
-          let final = lead_final program input limits valid g.i g.lead g.lead_at (ap is_over (sym g.is_lead) ∙ over) in
-          let took = trail_words program input limits valid trail_next_at.0 (Quits g.lead) trail_after trail_next_at.1 in
-          let sent = trail_echoes program input limits valid trail_next_at.0 (Quits g.lead) trail_after trail_next_at.1 in
+          let final = lead_final program input limits sites g.i g.lead g.lead_at (ap is_over (sym g.is_lead) ∙ over) in
+          let took = trail_words program input limits sites trail_next_at.0 (Quits g.lead) trail_after trail_next_at.1 in
+          let sent = trail_echoes program input limits sites trail_next_at.0 (Quits g.lead) trail_after trail_next_at.1 in
           let way = taken_way g.lead.sent g.trail.took duo.words (word_met meet) left g.words coming in
           let short : length (ideal program input limits trail_next_at.0).words ≤ length (ideal program input limits final.0).words =
           omega (arith, took, ap length way, length-append (g.trail.took ++ word_met meet) left, ap length final.1) in

@@ -27,7 +27,7 @@ Fails meet = (written : ℕ) × (meet ≡ Failed written)
 performed_clean : (d : Does) (s : SideState) → performed d s ≡ Ended WriteFault → ⊥
 performed_clean (Goes machine) s h = cc
 performed_clean (Traps trap line) s h = cc
-performed_clean (Reaches access) s h = cc
+performed_clean (Reaches access line) s h = cc
 performed_clean Lost s h = cc
 
 compared_by : (b : Bool) (rest : Outcome) (word mine : ℕ) → (rest ≡ Ended WriteFault → ⊥) → (if b then rest else Ended (Echo word mine)) ≡ Ended WriteFault → ⊥
@@ -59,22 +59,22 @@ acts_fault (Got word) q asked s w h = absurd (cc)
 acts_fault Closed q asked s w h = absurd (cc)
 acts_fault (Failed written) q asked s w h = (written, refl)
 
-op_fault : (op : VersionOp) (line : ℕ) (s : SideState) (w : WorldState) (meet : Meet) → (lead_op op line s w meet).outcome ≡ Ended WriteFault → Fails meet
-op_fault (Copied mid) line s w meet h = absurd (performed_clean (act mid line s.machine) s h)
-op_fault (Ask site args) line s w meet h = absurd (cc)
-op_fault (Await site args) line s w meet h = absurd (awaits_clean meet (ack_words site.0 (operands s args)) s h)
-op_fault (Act site asks args) line s w meet h = acts_fault meet (act_request asks site (operands s args)) (ask w (act_request asks site (operands s args))) s w h
-op_fault (Check site source) line s w meet h = absurd (cc)
-op_fault (Ack site args) line s w meet h = absurd (cc)
-op_fault (End source) line s w meet h = absurd (cc)
+op_fault : (program : MidProgram) (op : VersionOp) (line : ℕ) (s : SideState) (w : WorldState) (meet : Meet) → (lead_op program op line s w meet).outcome ≡ Ended WriteFault → Fails meet
+op_fault program (Copied mid) line s w meet h = absurd (performed_clean (act program mid line s.machine) s h)
+op_fault program (Ask site args) line s w meet h = absurd (cc)
+op_fault program (Await site args) line s w meet h = absurd (awaits_clean meet (ack_words site.0 (operands s args)) s h)
+op_fault program (Act site asks args) line s w meet h = acts_fault meet (act_request asks site (operands s args)) (ask w (act_request asks site (operands s args))) s w h
+op_fault program (Check site source) line s w meet h = absurd (cc)
+op_fault program (Ack site args) line s w meet h = absurd (cc)
+op_fault program (End source) line s w meet h = absurd (cc)
 
-at_fault : (o : Option VersionLine) (s : SideState) (w : WorldState) (meet : Meet) → (lead_at o s w meet).outcome ≡ Ended WriteFault → Fails meet
-at_fault None s w meet h = absurd (cc)
-at_fault (Some l) s w meet h = op_fault l.op l.line s w meet h
+at_fault : (program : MidProgram) (o : Option VersionLine) (s : SideState) (w : WorldState) (meet : Meet) → (lead_at program o s w meet).outcome ≡ Ended WriteFault → Fails meet
+at_fault program None s w meet h = absurd (cc)
+at_fault program (Some l) s w meet h = op_fault program l.op l.line s w meet h
 
 pub lead_fault : (program : MidProgram) (s : SideState) (w : WorldState) (meet : Meet) → (lead_next program s w meet).outcome ≡ Ended WriteFault → Fails meet
 unfolding lead_next
-lead_fault program s w meet h = at_fault (side_op Lead program s) s w meet h
+lead_fault program s w meet h = at_fault program (side_op Lead program s) s w meet h
 
 -- a step whose outlet does not fail meets none that fails
 found_word : (over : Bool) (coming : List ℕ) (written : ℕ) (left : List ℕ) → finds_word over coming ≡ Meets (Failed written) left → ⊥

@@ -84,37 +84,37 @@ pub record Alike (a b : StepGives) : Type 0 where
   pub sent : a.sent ≡ b.sent
   pub events : a.events ≡ b.events
 
-alike_op : (op : VersionOp) (line : ℕ) (s : SideState) (v w : WorldState) (meet : Meet) → Alike (trail_op op line s v meet) (trail_op op line s w meet)
-alike_op (Copied mid) line s v w meet = record { outcome = refl; sent = refl; events = refl }
-alike_op (Ask site args) line s v w meet = record { outcome = refl; sent = refl; events = refl }
-alike_op (Await site args) line s v w meet = record { outcome = refl; sent = refl; events = refl }
-alike_op (Act site asks args) line s v w meet = record { outcome = refl; sent = refl; events = refl }
-alike_op (Check site source) line s v w meet = record { outcome = refl; sent = refl; events = refl }
-alike_op (Ack site args) line s v w meet = record { outcome = refl; sent = refl; events = refl }
-alike_op (End source) line s v w meet = record { outcome = refl; sent = refl; events = refl }
+alike_op : (program : MidProgram) (op : VersionOp) (line : ℕ) (s : SideState) (v w : WorldState) (meet : Meet) → Alike (trail_op program op line s v meet) (trail_op program op line s w meet)
+alike_op program (Copied mid) line s v w meet = record { outcome = refl; sent = refl; events = refl }
+alike_op program (Ask site args) line s v w meet = record { outcome = refl; sent = refl; events = refl }
+alike_op program (Await site args) line s v w meet = record { outcome = refl; sent = refl; events = refl }
+alike_op program (Act site asks args) line s v w meet = record { outcome = refl; sent = refl; events = refl }
+alike_op program (Check site source) line s v w meet = record { outcome = refl; sent = refl; events = refl }
+alike_op program (Ack site args) line s v w meet = record { outcome = refl; sent = refl; events = refl }
+alike_op program (End source) line s v w meet = record { outcome = refl; sent = refl; events = refl }
 
-alike_at : (o : Option VersionLine) (s : SideState) (v w : WorldState) (meet : Meet) → Alike (trail_at o s v meet) (trail_at o s w meet)
-alike_at None s v w meet = record { outcome = refl; sent = refl; events = refl }
-alike_at (Some l) s v w meet = alike_op l.op l.line s v w meet
+alike_at : (program : MidProgram) (o : Option VersionLine) (s : SideState) (v w : WorldState) (meet : Meet) → Alike (trail_at program o s v meet) (trail_at program o s w meet)
+alike_at program None s v w meet = record { outcome = refl; sent = refl; events = refl }
+alike_at program (Some l) s v w meet = alike_op program l.op l.line s v w meet
 
 pub alike : (program : MidProgram) (s : SideState) (v w : WorldState) (meet : Meet) → Alike (trail_next program s v meet) (trail_next program s w meet)
 unfolding trail_next
-alike program s v w meet = alike_at (side_op Trail program s) s v w meet
+alike program s v w meet = alike_at program (side_op Trail program s) s v w meet
 
 -- a trailing step writes nothing
-quiet_op : (op : VersionOp) (line : ℕ) (s : SideState) (w : WorldState) (meet : Meet) → (trail_op op line s w meet).events ≡ []
-quiet_op (Copied mid) line s w meet = refl
-quiet_op (Ask site args) line s w meet = refl
-quiet_op (Await site args) line s w meet = refl
-quiet_op (Act site asks args) line s w meet = refl
-quiet_op (Check site source) line s w meet = refl
-quiet_op (Ack site args) line s w meet = refl
-quiet_op (End source) line s w meet = refl
+quiet_op : (program : MidProgram) (op : VersionOp) (line : ℕ) (s : SideState) (w : WorldState) (meet : Meet) → (trail_op program op line s w meet).events ≡ []
+quiet_op program (Copied mid) line s w meet = refl
+quiet_op program (Ask site args) line s w meet = refl
+quiet_op program (Await site args) line s w meet = refl
+quiet_op program (Act site asks args) line s w meet = refl
+quiet_op program (Check site source) line s w meet = refl
+quiet_op program (Ack site args) line s w meet = refl
+quiet_op program (End source) line s w meet = refl
 
-quiet_at : (o : Option VersionLine) (s : SideState) (w : WorldState) (meet : Meet) → (trail_at o s w meet).events ≡ []
-quiet_at None s w meet = refl
-quiet_at (Some l) s w meet = quiet_op l.op l.line s w meet
+quiet_at : (program : MidProgram) (o : Option VersionLine) (s : SideState) (w : WorldState) (meet : Meet) → (trail_at program o s w meet).events ≡ []
+quiet_at program None s w meet = refl
+quiet_at program (Some l) s w meet = quiet_op program l.op l.line s w meet
 
 pub writes_nothing : (program : MidProgram) (s : SideState) (w : WorldState) (meet : Meet) → (trail_next program s w meet).events ≡ []
 unfolding trail_next
-writes_nothing program s w meet = quiet_at (side_op Trail program s) s w meet
+writes_nothing program s w meet = quiet_at program (side_op Trail program s) s w meet

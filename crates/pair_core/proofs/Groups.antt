@@ -1,15 +1,16 @@
 -- The group of instructions that stands for one instruction of middle code, on either side. This is
 -- the one place that looks at the instructions one by one.
-use Rattle.std.proofs.Common.{◌≡◌, ℕ, suc, ◌+◌, ◌<◌, ◌≤◌, ◌%◌, true, List, [], ◌∷◌, length, Option, Some, None, slice_get, option_and_then, refl, sym, ap, ◌∙◌, subst, arith}
-use Rattle.srmt_base.specs.declared.event.Event.{Event}
-use Rattle.srmt_base.specs.declared.event.Event.TheVariants.{Byte}
+use Rattle.std.proofs.Common.{◌≡◌, ℕ, suc, ◌+◌, ◌<◌, ◌≤◌, ◌%◌, inl, inr, Bool, true, false, List, [], ◌∷◌, length, Option, Some, None, slice_get, option_and_then, refl, sym, ap, ◌∙◌, subst, arith}
+use Rattle.std.specs.Prelude.{◌&&◌, not, ◌==◌}
+use Rattle.std.proofs.lemmas.Bool.{cases_lt, eqb-false}
+use Rattle.srmt_base.specs.declared.limits.Limits.{Limits}
 use Rattle.srmt_base.specs.declared.trap.Trap.{Trap}
 use Rattle.srmt_base.specs.declared.trap.SourceEnd.{SourceEnd}
 use Rattle.srmt_base.specs.declared.trap.SourceEnd.TheVariants.{Exit as SourceExit}
 use Rattle.srmt_base.specs.declared.word.Kind.TheVariants.{Check as CheckKind, Ack as AckKind}
 use Rattle.srmt_base.specs.declared.word.Site.{Site}
 use Rattle.srmt_base.specs.Word.{word_of}
-use Rattle.mid_code.specs.declared.access.Access.TheVariants.{Puts, Exits}
+use Rattle.srmt_base.specs.Convert.{convert_of}
 use Rattle.mid_code.specs.declared.mid.Mid.{Mid}
 use Rattle.mid_code.specs.declared.mid.Mid.TheVariants.{Const, Conv, Put, Exit}
 use Rattle.mid_code.specs.declared.program.MidFunction.{MidFunction}
@@ -22,26 +23,33 @@ use Rattle.mid_code.specs.declared.version.VersionOp.TheVariants.{Copied, Ask, A
 use Rattle.mid_code.specs.Program.{function_at, line_at}
 use Rattle.mid_code.specs.Classes.{site_of, site_at, protected_functions}
 use Rattle.mid_code.specs.Versions.{leading_ops, trailing_ops, with_line, versions_from, version_at}
-use Rattle.mid_code.specs.Machine.{Machine, Does, Goes, Traps, Reaches, Lost as Nowhere, register, passed, given, act, act_at, does}
-use Rattle.mid_code.specs.Meaning.{On, step_by}
-use Rattle.mid_code.specs.Fits.{Fits}
-use Rattle.mid_code.specs.Valid.{IsValid}
+use Rattle.mid_code.specs.Machine.{Machine, Goes, register, moved_to, passed, given, spent, act, act_at, does}
+use Rattle.mid_code.specs.Pairs.{IsOfFirstForm, HasSites}
+use Rattle.mid_code.specs.Rules.{is_final}
+use Rattle.mid_code.specs.Start.{full_budget, main_activation, started_machine}
 use Rattle.mid_code.proofs.Fetching.{version_place, group_of, fetch, moved-next}
-use Rattle.mid_code.proofs.Fitting.{one_within, IsSound, sound_step}
+use Rattle.mid_code.proofs.Keeping.{keeps}
+use Rattle.mid_code.proofs.Values.{one_within}
+use Rattle.world.proofs.Plain.{plain_line}
 use Rattle.word_stream.specs.declared.request.Request.{Request}
+use Rattle.word_stream.specs.declared.request.Request.TheVariants.{Put as PutAsked, Exit as ExitAsked}
 use Rattle.word_stream.specs.declared.request.Response.{Response}
 use Rattle.word_stream.specs.declared.request.Response.TheVariants.{Done}
 use Rattle.word_stream.specs.Exchange.{request_site, operands_of, is_guarded, response_words, checks_of, acks_of}
-use Rattle.world.specs.Requests.{Runs, Dies, Requests, Lost, next_site, request_by, wants_by, wants, Back, Over, resume_by, resume}
+use Rattle.world.specs.Requests.{Runs, Dies, Requests, Lost, next_site, wants_by, wants, Back, Over, resume_by, resume}
 use Rattle.machine.specs.declared.thread_end.ThreadEnd.TheVariants.{Exit as ExitEnd}
 use Rattle.machine.specs.Side.{SideState, Went, Ended}
 use Rattle.machine.specs.Steps.{passed_on}
 use Rattle.machine.specs.Leading.{act_request, answered}
+use Rattle.machine.proofs.FirstForm.{is_main, first_function_at}
 use Rattle.pair_core.specs.Laws.{end_as}
 
--- the machine has an instruction of a protected function next
+-- the machine has an instruction of a protected function of a pair's program next
 pub record Stands (program : MidProgram) (m : Machine) : Type 0 where
-  pub fits : Fits program m
+  pub sites : HasSites program
+  pub code : MidFunction
+  pub found : function_at program m.top.function ≡ Some code
+  pub place : m.top.place < length code.code
   pub protected : m.top.function ≤ program.main_functions
 
 -- where the group of an instruction begins in its version
@@ -54,7 +62,7 @@ group_place ops program m = group_start ops program m.top.function m.top.place (
 
 -- the machine at another place
 abbrev pub put_at : ℕ → Machine → Machine
-put_at place m = record { top = record { function = m.top.function; place = place; registers = m.top.registers }; below = m.below }
+put_at place m = moved_to place m
 
 -- the machine at the k-th instruction of the group that stands for its instruction
 abbrev pub within_group : (ℕ → Mid → List VersionOp) → MidProgram → Machine → ℕ → Machine
@@ -74,34 +82,52 @@ pub record Next (program : MidProgram) (m : Machine) : Type 0 where
   pub code : MidFunction
   pub found : function_at program m.top.function ≡ Some code
   pub here : slice_get code.code m.top.place ≡ Some line
+  pub plain : IsOfFirstForm line.mid
+  -- another follows it, unless it is the last
+  pub inner : is_final line.mid ≡ false → m.top.place + 1 < length code.code
+
+not_at_end : (at_end final : Bool) → final ≡ false → (at_end && not final) ≡ false → at_end ≡ false
+not_at_end false final unlike h = refl
+not_at_end true false unlike h = absurd (cc)
+not_at_end true true unlike h = absurd (cc)
+
+not_end : (place count : ℕ) → place < count → (place + 1 == count) ≡ false → place + 1 < count
+not_end place count within apart =
+    elim (cases_lt (place + 1) count) as (λ _. place + 1 < count) [
+      | inl less ↦ less
+      | inr more ↦ let e : place + 1 ≡ count = omega arith in absurd (eqb-false (place + 1) count apart e)
+    ]
 
 pub next_line : (program : MidProgram) (m : Machine) → Stands program m → Next program m
 next_line program m stands =
-    let one = one_within stands.fits.code.code m.top.place stands.fits.place in
+    let one = one_within stands.code.code m.top.place stands.place in
+    let rules = keeps program m.top.function m.top.place stands.code one.0 stands.sites.valid stands.found one.1 in
     record {
       line = one.0;
-      at = ap (λ o. option_and_then (λ f. slice_get f.code m.top.place) o) stands.fits.found ∙ one.1;
-      code = stands.fits.code;
-      found = stands.fits.found;
+      at = ap (λ o. option_and_then (λ f. slice_get f.code m.top.place) o) stands.found ∙ one.1;
+      code = stands.code;
+      found = stands.found;
       here = one.1;
+      plain = plain_line program stands.sites m.top.function stands.code m.top.place one.0 stands.found stands.protected one.1;
+      inner = λ more. not_end m.top.place (length stands.code.code) stands.place (not_at_end (m.top.place + 1 == length stands.code.code) (is_final one.0.mid) more rules.followed);
     }
 
 sum_same : (a b c d : ℕ) → a ≡ b → c ≡ d → a + c ≡ b + d
 sum_same a b c d p q = omega arith
 
 module _ (program : MidProgram) (m : Machine) (stands : Stands program m) (n : Next program m) where
-  pub does_next : does program m ≡ act n.line.mid n.line.line m
+  pub does_next : does program m ≡ act program n.line.mid n.line.line m
   unfolding does
-  does_next = ap (λ o. act_at o m) n.at
+  does_next = ap (λ o. act_at program o m) n.at
 
   -- an instruction of the group
   pub op_within : (ops : ℕ → Mid → List VersionOp) (k : ℕ) → k < length (with_line n.line.line (ops (next_site program m) n.line.mid)) →
-      version_at (versions_from ops 1 (protected_functions program)) m.top.function (group_place ops program m + k) ≡ slice_get (with_line n.line.line (ops (next_site program m) n.line.mid)) k
+      version_at (versions_from program.main_functions ops 1 (protected_functions program)) m.top.function (group_place ops program m + k) ≡ slice_get (with_line n.line.line (ops (next_site program m) n.line.mid)) k
   op_within ops k within =
       let site : next_site program m ≡ site_at program m.top.function m.top.place (Some n.code) = ap (site_at program m.top.function m.top.place) n.found in
       let start : group_place ops program m ≡ version_place ops program m.top.function n.code m.top.place = ap (group_start ops program m.top.function m.top.place) n.found in
       let within' : k < length (group_of ops (site_at program m.top.function m.top.place (Some n.code)) n.line) = subst (λ s. k < length (with_line n.line.line (ops s n.line.mid))) site within in
-      ap (λ p. version_at (versions_from ops 1 (protected_functions program)) m.top.function (p + k)) start
+      ap (λ p. version_at (versions_from program.main_functions ops 1 (protected_functions program)) m.top.function (p + k)) start
       ∙ fetch ops program m.top.function n.code m.top.place n.line k n.found stands.protected n.here within'
       ∙ ap (λ s. slice_get (with_line n.line.line (ops s n.line.mid)) k) (sym site)
 
@@ -111,7 +137,7 @@ module _ (program : MidProgram) (m : Machine) (stands : Stands program m) (n : N
   next_start ops =
       let site : next_site program m ≡ site_at program m.top.function m.top.place (Some n.code) = ap (site_at program m.top.function m.top.place) n.found in
       ap (group_start ops program m.top.function (m.top.place + 1)) n.found
-      ∙ moved-next ops _ n.code.code m.top.place n.line n.here
+      ∙ moved-next program.main_functions ops _ n.code.code m.top.place n.line n.here
       ∙ sum_same _ _ _ _ (ap (group_start ops program m.top.function m.top.place) (sym n.found)) (ap (λ s. length (with_line n.line.line (ops s n.line.mid))) (sym site))
 
 -- the next instruction of the machine at its k-th place, as what `passed` leads to
@@ -121,47 +147,53 @@ passed_within ops program m k =
     ap (λ p. put_at p m) e
 
 -- what an instruction that both sides perform is in each version, and what it does there
-pub record CopiedGroup (site : ℕ) (m next : Machine) (l : MidLine) : Type 0 where
+pub record CopiedGroup (program : MidProgram) (site : ℕ) (m next : Machine) (l : MidLine) : Type 0 where
   pub lead : leading_ops site l.mid ≡ Copied l.mid ∷ []
   pub trail : trailing_ops site l.mid ≡ Copied l.mid ∷ []
   pub function : next.top.function ≡ m.top.function
   pub place : next.top.place ≡ m.top.place + 1
-  pub anywhere : (place : ℕ) → act l.mid l.line (put_at place m) ≡ Goes (put_at (place + 1) next)
+  pub goes_on : is_final l.mid ≡ false
+  pub anywhere : (place : ℕ) → act program l.mid l.line (put_at place m) ≡ Goes (put_at (place + 1) next)
 
-pub copied_group : (site : ℕ) (m next : Machine) (mid : Mid) (line : ℕ) → act mid line m ≡ Goes next → CopiedGroup site m next (record { line = line; mid = mid })
-copied_group site m next (Const target value) line h =
+copied_group : (program : MidProgram) (site : ℕ) (m next : Machine) (mid : Mid) (line : ℕ) → IsOfFirstForm mid → wants_by site (act program mid line m) ≡ Runs next → CopiedGroup program site m next (record { line = line; mid = mid })
+copied_group program site m next (Const target value) line plain h =
     let e : given target value m ≡ next = cc in
     record {
       lead = refl;
       trail = refl;
       function = ap (λ x. x.top.function) (sym e);
       place = ap (λ x. x.top.place) (sym e);
+      goes_on = refl;
       anywhere = λ place. ap (λ x. Goes (put_at (place + 1) x)) e;
     }
-copied_group site m next (Conv from to target source) line h =
-    let e : given target (Rattle.srmt_base.specs.Convert.convert_of from to (register m source)) m ≡ next = cc in
+copied_group program site m next (Conv from to target source) line plain h =
+    let e : given target (convert_of from to (register m source)) m ≡ next = cc in
     record {
       lead = refl;
       trail = refl;
       function = ap (λ x. x.top.function) (sym e);
       place = ap (λ x. x.top.place) (sym e);
+      goes_on = refl;
       anywhere = λ place. ap (λ x. Goes (put_at (place + 1) x)) e;
     }
-copied_group site m next (Put source) line h = absurd (cc)
-copied_group site m next (Exit source) line h = absurd (cc)
+copied_group program site m next (Put source) line plain h = absurd (cc)
+copied_group program site m next (Exit source) line plain h = absurd (cc)
+copied_group program site m next _ line plain h = absurd plain
 
 -- no instruction stops the run by itself
-pub no_trap : (m : Machine) (mid : Mid) (line : ℕ) (trap : Trap) (at : ℕ) → act mid line m ≡ Traps trap at → ⊥
-no_trap m (Const target value) line trap at h = cc
-no_trap m (Conv from to target source) line trap at h = cc
-no_trap m (Put source) line trap at h = cc
-no_trap m (Exit source) line trap at h = cc
+no_trap : (program : MidProgram) (site : ℕ) (m : Machine) (mid : Mid) (line : ℕ) (trap : Trap) (at : ℕ) → IsOfFirstForm mid → wants_by site (act program mid line m) ≡ Dies trap at → ⊥
+no_trap program site m (Const target value) line trap at plain h = cc
+no_trap program site m (Conv from to target source) line trap at plain h = cc
+no_trap program site m (Put source) line trap at plain h = cc
+no_trap program site m (Exit source) line trap at plain h = cc
+no_trap program site m _ line trap at plain h = plain
 
-pub no_loss : (m : Machine) (mid : Mid) (line : ℕ) → act mid line m ≡ Nowhere → ⊥
-no_loss m (Const target value) line h = cc
-no_loss m (Conv from to target source) line h = cc
-no_loss m (Put source) line h = cc
-no_loss m (Exit source) line h = cc
+no_loss : (program : MidProgram) (site : ℕ) (m : Machine) (mid : Mid) (line : ℕ) → IsOfFirstForm mid → wants_by site (act program mid line m) ≡ Lost → ⊥
+no_loss program site m (Const target value) line plain h = cc
+no_loss program site m (Conv from to target source) line plain h = cc
+no_loss program site m (Put source) line plain h = cc
+no_loss program site m (Exit source) line plain h = cc
+no_loss program site m _ line plain h = plain
 
 -- what an instruction that asks the world is in each version, with its request
 pub record ExchangeGroup (program : MidProgram) (m : Machine) (q : Request) (l : MidLine) : Type 0 where
@@ -177,16 +209,16 @@ pub record ExchangeGroup (program : MidProgram) (m : Machine) (q : Request) (l :
   pub guarded : is_guarded q ≡ true
   pub no_words : (r : Response) → response_words q r ≡ []
   -- the run goes on behind the group, or ends by what the register holds
-  pub back : (r : Response) (next : Machine) → resume program m r ≡ Back next → (next ≡ passed m) × (tail ≡ []) × ((s : SideState) → answered q r s ≡ Went (passed_on s)) × ((events : List Event) × (step_by (act l.mid l.line m) m ≡ On (passed m) events))
+  pub back : (r : Response) (next : Machine) → resume program m r ≡ Back next → (next ≡ passed m) × (tail ≡ []) × ((s : SideState) → answered q r s ≡ Went (passed_on s)) × (is_final l.mid ≡ false)
   pub over : (r : Response) (end : SourceEnd) → resume program m r ≡ Over end → (tail ≡ End source ∷ []) × (ExitEnd (register m source % 256) ≡ end_as end) × ((s : SideState) → answered q r s ≡ Ended (end_as end))
 
 module _ (program : MidProgram) (m : Machine) (q : Request) where
-  pub exchange_group : (mid : Mid) (line : ℕ) → does program m ≡ act mid line m → wants_by (next_site program m) (act mid line m) ≡ Requests q → ExchangeGroup program m q (record { line = line; mid = mid })
+  exchange_group : (mid : Mid) (line : ℕ) → IsOfFirstForm mid → does program m ≡ act program mid line m → wants_by (next_site program m) (act program mid line m) ≡ Requests q → ExchangeGroup program m q (record { line = line; mid = mid })
   unfolding request_site operands_of is_guarded response_words resume
-  exchange_group (Const target value) line does_so h = absurd (cc)
-  exchange_group (Conv from to target source) line does_so h = absurd (cc)
-  exchange_group (Put source) line does_so h =
-      let e : request_by (next_site program m) (Puts (register m source)) ≡ q = cc in
+  exchange_group (Const target value) line plain does_so h = absurd (cc)
+  exchange_group (Conv from to target source) line plain does_so h = absurd (cc)
+  exchange_group (Put source) line plain does_so h =
+      let e : PutAsked (site_of (next_site program m)) (register m source) ≡ q = cc in
       record {
         site = site_of (next_site program m);
         source = source;
@@ -199,7 +231,7 @@ module _ (program : MidProgram) (m : Machine) (q : Request) where
         acks = ap acks_of (sym e);
         guarded = ap is_guarded (sym e);
         no_words = λ r. none r;
-        back = λ r next back. (by_back r next back, refl, (λ s. ap (λ x. answered x r s) (sym e)), (Byte (register m source % 256) ∷ [], refl));
+        back = λ r next back. (by_back r next back, refl, (λ s. ap (λ x. answered x r s) (sym e)), refl);
         over = λ r end over. absurd (not_over r end over);
       }
     where
@@ -211,8 +243,8 @@ module _ (program : MidProgram) (m : Machine) (q : Request) where
 
       not_over : (r : Response) (end : SourceEnd) → resume_by (does program m) m r ≡ Over end → ⊥
       not_over r end over = let f : Back (passed m) ≡ Over end = sym (ap (λ d. resume_by d m r) does_so) ∙ over in cc
-  exchange_group (Exit source) line does_so h =
-      let e : request_by (next_site program m) (Exits (register m source)) ≡ q = cc in
+  exchange_group (Exit source) line plain does_so h =
+      let e : ExitAsked (site_of (next_site program m)) (register m source) ≡ q = cc in
       record {
         site = site_of (next_site program m);
         source = source;
@@ -237,66 +269,51 @@ module _ (program : MidProgram) (m : Machine) (q : Request) where
 
       by_over : (r : Response) (end : SourceEnd) → resume_by (does program m) m r ≡ Over end → SourceExit (register m source % 256) ≡ end
       by_over r end over = let f : Over (SourceExit (register m source % 256)) ≡ Over end = sym (ap (λ d. resume_by d m r) does_so) ∙ over in cc
-
--- what a machine wants, by what its instruction does
-wants_runs : (site : ℕ) (d : Does) (next : Machine) → wants_by site d ≡ Runs next → d ≡ Goes next
-wants_runs site (Goes machine) next h = let e : machine ≡ next = cc in ap Goes e
-wants_runs site (Traps trap line) next h = absurd (cc)
-wants_runs site (Reaches access) next h = absurd (cc)
-wants_runs site Nowhere next h = absurd (cc)
-
-wants_dies : (site : ℕ) (d : Does) (trap : Trap) (line : ℕ) → wants_by site d ≡ Dies trap line → d ≡ Traps trap line
-wants_dies site (Goes machine) trap line h = absurd (cc)
-wants_dies site (Traps trap' line') trap line h = let e : trap' ≡ trap = cc in let f : line' ≡ line = cc in ap (λ t. Traps t line') e ∙ ap (Traps trap) f
-wants_dies site (Reaches access) trap line h = absurd (cc)
-wants_dies site Nowhere trap line h = absurd (cc)
-
-wants_lost : (site : ℕ) (d : Does) → wants_by site d ≡ Lost → d ≡ Nowhere
-wants_lost site (Goes machine) h = absurd (cc)
-wants_lost site (Traps trap line) h = absurd (cc)
-wants_lost site (Reaches access) h = absurd (cc)
-wants_lost site Nowhere h = refl
+  exchange_group _ line plain does_so h = absurd plain
 
 module _ (program : MidProgram) (m : Machine) (stands : Stands program m) (n : Next program m) where
-  pub group_runs : (next : Machine) → wants program m ≡ Runs next → CopiedGroup (next_site program m) m next n.line
+  -- what the machine wants, by its instruction
+  wants_next : wants program m ≡ wants_by (next_site program m) (act program n.line.mid n.line.line m)
   unfolding wants
-  group_runs next h = copied_group (next_site program m) m next n.line.mid n.line.line (sym (does_next program m stands n) ∙ wants_runs (next_site program m) (does program m) next h)
+  wants_next = ap (wants_by (next_site program m)) (does_next program m stands n)
+
+  pub group_runs : (next : Machine) → wants program m ≡ Runs next → CopiedGroup program (next_site program m) m next n.line
+  group_runs next h = copied_group program (next_site program m) m next n.line.mid n.line.line n.plain (sym wants_next ∙ h)
 
   pub never_dies : (trap : Trap) (line : ℕ) → wants program m ≡ Dies trap line → ⊥
-  unfolding wants
-  never_dies trap line h = no_trap m n.line.mid n.line.line trap line (sym (does_next program m stands n) ∙ wants_dies (next_site program m) (does program m) trap line h)
+  never_dies trap line h = no_trap program (next_site program m) m n.line.mid n.line.line trap line n.plain (sym wants_next ∙ h)
 
   pub never_lost : wants program m ≡ Lost → ⊥
-  unfolding wants
-  never_lost h = no_loss m n.line.mid n.line.line (sym (does_next program m stands n) ∙ wants_lost (next_site program m) (does program m) h)
+  never_lost h = no_loss program (next_site program m) m n.line.mid n.line.line n.plain (sym wants_next ∙ h)
 
   pub group_asks : (q : Request) → wants program m ≡ Requests q → ExchangeGroup program m q n.line
-  unfolding wants
-  group_asks q h = exchange_group program m q n.line.mid n.line.line (does_next program m stands n) (ap (wants_by (next_site program m)) (sym (does_next program m stands n)) ∙ h)
+  group_asks q h = exchange_group program m q n.line.mid n.line.line n.plain (does_next program m stands n) (sym wants_next ∙ h)
 
   -- the machine after the instruction stands at the next one
-  on_fits : IsValid program → (next : Machine) (events : List Event) → step_by (act n.line.mid n.line.line m) m ≡ On next events → Fits program next
-  on_fits valid next events e =
-      let sound = subst (λ d. IsSound program (step_by d m)) (does_next program m stands n) (sound_does valid) in
-      subst (IsSound program) e sound
-    where
-      sound_does : IsValid program → IsSound program (step_by (does program m) m)
-      sound_does valid = sound_step program m valid stands.fits
+  stands_next : (next : Machine) → next.top.function ≡ m.top.function → next.top.place ≡ m.top.place + 1 → is_final n.line.mid ≡ false → Stands program next
+  stands_next next function place goes_on = record {
+    sites = stands.sites;
+    code = n.code;
+    found = ap (function_at program) function ∙ n.found;
+    place = subst (λ p. p < length n.code.code) (sym place) (n.inner goes_on);
+    protected = subst (λ f. f ≤ program.main_functions) (sym function) stands.protected;
+  }
 
-  pub stands_runs : IsValid program → (next : Machine) → wants program m ≡ Runs next → Stands program next
-  unfolding wants
-  stands_runs valid next h =
-      let goes : act n.line.mid n.line.line m ≡ Goes next = sym (does_next program m stands n) ∙ wants_runs (next_site program m) (does program m) next h in
-      let same = (group_runs next h).function in
-      record {
-        fits = on_fits valid next [] (ap (λ d. step_by d m) goes);
-        protected = rw same stands.protected;
-      }
+  pub stands_runs : (next : Machine) → wants program m ≡ Runs next → Stands program next
+  stands_runs next h = let g = group_runs next h in stands_next next g.function g.place g.goes_on
 
-  pub stands_back : IsValid program → (q : Request) (r : Response) (next : Machine) → wants program m ≡ Requests q → resume program m r ≡ Back next → Stands program next
-  stands_back valid q r next h back =
+  pub stands_back : (q : Request) (r : Response) (next : Machine) → wants program m ≡ Requests q → resume program m r ≡ Back next → Stands program next
+  stands_back q r next h back =
       let g = (group_asks q h).back r next back in
-      subst (Stands program) (sym g.0) (record {
-        fits = on_fits valid (passed m) g.3.0 g.3.1;
-        protected = stands.protected;
-      })
+      subst (Stands program) (sym g.0) (stands_next (passed m) refl refl g.3)
+
+-- the machine at the start, by the code of `main`
+abbrev pub with_main : MidProgram → Limits → Option MidFunction → Machine
+with_main program limits f = record { top = main_activation program f; below = []; protected = spent (full_budget limits); binary = full_budget limits }
+
+pub stands_started : (program : MidProgram) (limits : Limits) → HasSites program → Stands program (started_machine program limits)
+stands_started program limits sites =
+    let main = is_main program sites.valid in
+    let first = first_function_at program program.main main.function sites main.found main.of_main_file in
+    subst (λ f. Stands program (with_main program limits f)) (sym main.found)
+    (record { sites = sites; code = main.function; found = main.found; place = omega (arith, first.long); protected = main.of_main_file })

@@ -6,8 +6,7 @@ use Rattle.srmt_base.specs.declared.limits.Limits.{Limits}
 use Rattle.srmt_base.specs.declared.trap.SourceEnd.{SourceEnd}
 use Rattle.mid_code.specs.declared.program.MidProgram.{MidProgram}
 use Rattle.mid_code.specs.Machine.{Machine}
-use Rattle.mid_code.specs.Valid.{IsValid}
-use Rattle.mid_code.proofs.Fitting.{fits_started}
+use Rattle.mid_code.specs.Pairs.{HasSites}
 use Rattle.word_stream.specs.declared.request.Request.{Request}
 use Rattle.word_stream.specs.declared.request.Response.{Response}
 use Rattle.word_stream.specs.Exchange.{is_guarded, response_words, checks_of, acks_of}
@@ -16,7 +15,7 @@ use Rattle.world.specs.Requests.{Wants, Runs, Dies, Requests, Lost, wants, Resum
 use Rattle.world.specs.Ideal.{Place, Here, Owed, Ended, IdealState, place_by, words_owed, requested, here_next, owed_next, next_by, ideal_next, ideal}
 use Rattle.pair_core.specs.Fit.{IsPrefix}
 use Rattle.pair_core.proofs.Prefixes.{prefix_refl, prefix_trans}
-use Rattle.pair_core.proofs.Groups.{Stands, next_line, never_dies, never_lost, stands_runs, stands_back}
+use Rattle.pair_core.proofs.Groups.{Stands, next_line, never_dies, never_lost, stands_runs, stands_back, stands_started}
 use Rattle.pair_core.proofs.Exchanges.{asks_guarded, same_count}
 
 -- what stands at a place of the ideal run
@@ -117,30 +116,30 @@ module _ (program : MidProgram) (c : IdealState) where
   pub grows_next : PlaceFits program c.place → Grows c (ideal_next program c)
   grows_next fits = grows_at c.place fits
 
-  fits_resumed : IsValid program → (m : Machine) → Stands program m → (q : Request) → wants program m ≡ Requests q → (r : Response) (x : Resumed) → resume program m r ≡ x → PlaceFits program (place_by x)
-  fits_resumed valid m stands q h r (Back next) back = stands_back program m stands (next_line program m stands) valid q r next h back
-  fits_resumed valid m stands q h r (Over end) over = tt
+  fits_resumed : (m : Machine) → Stands program m → (q : Request) → wants program m ≡ Requests q → (r : Response) (x : Resumed) → resume program m r ≡ x → PlaceFits program (place_by x)
+  fits_resumed m stands q h r (Back next) back = stands_back program m stands (next_line program m stands) q r next h back
+  fits_resumed m stands q h r (Over end) over = tt
 
-  fits_here : IsValid program → (m : Machine) → Stands program m → (x : Wants) → wants program m ≡ x → PlaceFits program (here_next x program m c).place
-  fits_here valid m stands (Runs next) h = stands_runs program m stands (next_line program m stands) valid next h
-  fits_here valid m stands (Dies trap line) h = tt
-  fits_here valid m stands (Requests q) h =
+  fits_here : (m : Machine) → Stands program m → (x : Wants) → wants program m ≡ x → PlaceFits program (here_next x program m c).place
+  fits_here m stands (Runs next) h = stands_runs program m stands (next_line program m stands) next h
+  fits_here m stands (Dies trap line) h = tt
+  fits_here m stands (Requests q) h =
       let e : requested (is_guarded q) program m q (ask c.world q) c ≡ asked_state program m q c = ap (λ b. requested b program m q (ask c.world q) c) (asks_guarded program m stands q h) in
       subst (λ d. PlaceFits program d.place) (sym e) (stands, q, h)
-  fits_here valid m stands Lost h = absurd (never_lost program m stands (next_line program m stands) h)
+  fits_here m stands Lost h = absurd (never_lost program m stands (next_line program m stands) h)
 
-  fits_at : IsValid program → (p : Place) → c.place ≡ p → PlaceFits program p → PlaceFits program (next_by p program c).place
-  fits_at valid (Here m) same fits = fits_here valid m fits (wants program m) refl
-  fits_at valid (Owed m r) same fits = fits_resumed valid m fits.0 fits.1 fits.2 r (resume program m r) refl
-  fits_at valid (Ended end) same fits = subst (PlaceFits program) (sym same) fits
+  fits_at : (p : Place) → c.place ≡ p → PlaceFits program p → PlaceFits program (next_by p program c).place
+  fits_at (Here m) same fits = fits_here m fits (wants program m) refl
+  fits_at (Owed m r) same fits = fits_resumed m fits.0 fits.1 fits.2 r (resume program m r) refl
+  fits_at (Ended end) same fits = subst (PlaceFits program) (sym same) fits
 
-  pub fits_next : IsValid program → PlaceFits program c.place → PlaceFits program (ideal_next program c).place
-  fits_next valid fits = fits_at valid c.place refl fits
+  pub fits_next : PlaceFits program c.place → PlaceFits program (ideal_next program c).place
+  fits_next fits = fits_at c.place refl fits
 
-module _ (program : MidProgram) (input : List ℕ) (limits : Limits) (valid : IsValid program) where
+module _ (program : MidProgram) (input : List ℕ) (limits : Limits) (sites : HasSites program) where
   pub fits_point : (i : ℕ) → PlaceFits program (ideal program input limits i).place
-  fits_point zero = record { fits = fits_started program valid; protected = valid.main.of_main_file }
-  fits_point (suc i) = fits_next program (ideal program input limits i) valid (fits_point i)
+  fits_point zero = stands_started program limits sites
+  fits_point (suc i) = fits_next program (ideal program input limits i) (fits_point i)
 
   pub stands_point : (i : ℕ) (m : Machine) → (ideal program input limits i).place ≡ Here m → Stands program m
   stands_point i m here = subst (PlaceFits program) here (fits_point i)

@@ -7,7 +7,7 @@ use Rattle.srmt_base.specs.declared.side.Side.TheVariants.{Lead}
 use Rattle.srmt_base.specs.declared.trap.SourceEnd.{SourceEnd}
 use Rattle.mid_code.specs.declared.program.MidProgram.{MidProgram}
 use Rattle.mid_code.specs.Machine.{Machine}
-use Rattle.mid_code.specs.Valid.{IsValid}
+use Rattle.mid_code.specs.Pairs.{HasSites}
 use Rattle.word_stream.specs.declared.request.Request.{Request}
 use Rattle.word_stream.specs.Exchange.{checks_of, acks_of}
 use Rattle.world.specs.World.{WorldState, ask, stopped}
@@ -65,7 +65,7 @@ pub data LeadAt (program : MidProgram) (c : IdealState) (past : Past) : Type 0 w
   LeadFailed : (m : Machine) (q : Request) (written : ℕ) → c.place ≡ Here m → wants program m ≡ Requests q →
       Shows past (Ended WriteFault) (stopped c.world) (c.echoes ++ acks_of q) (c.words ++ checks_of q) (c.events ++ take written (ask c.world q).events) → LeadAt program c past
 
-module _ (program : MidProgram) (input : List ℕ) (limits : Limits) (valid : IsValid program) where
+module _ (program : MidProgram) (input : List ℕ) (limits : Limits) (sites : HasSites program) where
   abbrev LeadGoes : Past → Type 0
   LeadGoes past = (j : ℕ) × LeadAt program (ideal program input limits j) past
 
@@ -81,8 +81,8 @@ module _ (program : MidProgram) (input : List ℕ) (limits : Limits) (valid : Is
   pub next_echo : (i k : ℕ) (xs rest : List ℕ) (x y : ℕ) → IsPrefix (xs ++ x ∷ []) (ideal program input limits k).echoes → (ideal program input limits i).echoes ≡ xs ++ y ∷ rest → x ≡ y
   next_echo i k xs rest x y p e =
       let all = (ideal program input limits (i + k)).echoes in
-      let first : IsPrefix (xs ++ x ∷ []) all = prefix_trans _ _ _ p (grows program input limits valid k (i + k) (omega arith)).echoes in
-      let second : IsPrefix (xs ++ y ∷ rest) all = subst (λ t. IsPrefix t all) e (grows program input limits valid i (i + k) (omega arith)).echoes in
+      let first : IsPrefix (xs ++ x ∷ []) all = prefix_trans _ _ _ p (grows program input limits sites k (i + k) (omega arith)).echoes in
+      let second : IsPrefix (xs ++ y ∷ rest) all = subst (λ t. IsPrefix t all) e (grows program input limits sites i (i + k) (omega arith)).echoes in
       next_of_two xs rest all x y first second
 
   module _ (i : ℕ) (past : Past) (s : SideState) (at : past.at ≡ Went s) where
@@ -101,54 +101,54 @@ module _ (program : MidProgram) (input : List ℕ) (limits : Limits) (valid : Is
     from_start : (m : Machine) → c.place ≡ Here m → Shows past (Went (lead_side program m 0 [])) c.world c.echoes c.words c.events →
         (x : Wants) → wants program m ≡ x → (meet : Meet) → CanMeet Lead program (lead_side program m 0 []) c.world meet → LeadGoes (after meet)
     from_start m here shows (Runs next) h Plain can =
-        let stands = stands_point program input limits valid i m here in
+        let stands = stands_point program input limits sites i m here in
         let e = next_runs program c m next here h in (
           suc i,
           subst (λ d. LeadAt program d (after Plain)) (sym e) (LeadStarts next refl
               (shows_on Lead program past _ s Plain _ _ _ _ _ _ _ _ shows at (lead_goes program m stands (next_line program m stands) next c.world h) (append-nil _) (append-nil _) (append-nil _))),
         )
     from_start m here shows (Runs next) h (Got word) can =
-        let stands = stands_point program input limits valid i m here in
+        let stands = stands_point program input limits sites i m here in
         let no = lead_runs_takes program m stands (next_line program m stands) next h in absurd (cc)
     from_start m here shows (Runs next) h Closed can =
-        let stands = stands_point program input limits valid i m here in
+        let stands = stands_point program input limits sites i m here in
         let no = lead_runs_takes program m stands (next_line program m stands) next h in absurd (cc)
     from_start m here shows (Runs next) h (Failed written) can =
-        let stands = stands_point program input limits valid i m here in
+        let stands = stands_point program input limits sites i m here in
         let none = ap (λ g. length g.events) (lead_goes program m stands (next_line program m stands) next c.world h) in absurd (omega (arith, can.1, none))
     from_start m here shows (Dies trap line) h meet can =
-        let stands = stands_point program input limits valid i m here in absurd (never_dies program m stands (next_line program m stands) trap line h)
+        let stands = stands_point program input limits sites i m here in absurd (never_dies program m stands (next_line program m stands) trap line h)
     from_start m here shows Lost h meet can =
-        let stands = stands_point program input limits valid i m here in absurd (never_lost program m stands (next_line program m stands) h)
+        let stands = stands_point program input limits sites i m here in absurd (never_lost program m stands (next_line program m stands) h)
     from_start m here shows (Requests q) h Plain can =
-        let stands = stands_point program input limits valid i m here in
+        let stands = stands_point program input limits sites i m here in
         let some = acks_some program m stands q h in (
           i,
           LeadAwaits m q [] some.0 some.1 here h some.2
               (shows_on Lead program past _ s Plain _ _ _ _ _ _ _ _ shows at (lead_asks program m stands q h c.world) refl refl (append-nil _)),
         )
     from_start m here shows (Requests q) h (Got word) can =
-        let stands = stands_point program input limits valid i m here in
+        let stands = stands_point program input limits sites i m here in
         let no = lead_asks_takes program m stands q h in absurd (cc)
     from_start m here shows (Requests q) h Closed can =
-        let stands = stands_point program input limits valid i m here in
+        let stands = stands_point program input limits sites i m here in
         let no = lead_asks_takes program m stands q h in absurd (cc)
     from_start m here shows (Requests q) h (Failed written) can =
-        let stands = stands_point program input limits valid i m here in
+        let stands = stands_point program input limits sites i m here in
         let none = ap (λ g. length g.events) (lead_asks program m stands q h c.world) in absurd (omega (arith, can.1, none))
 
     -- an acknowledgement that is right
     hears : (m : Machine) (q : Request) (heard : List ℕ) (x : ℕ) (rest : List ℕ) → c.place ≡ Here m → wants program m ≡ Requests q → acks_of q ≡ heard ++ x ∷ rest →
         Shows past (Went (lead_side program m 1 heard)) c.world (c.echoes ++ heard) (c.words ++ checks_of q) c.events → LeadGoes (after (Got x))
     hears m q heard x [] here h acks shows =
-        let stands = stands_point program input limits valid i m here in
+        let stands = stands_point program input limits sites i m here in
         let took : (c.echoes ++ heard) ++ x ∷ [] ≡ c.echoes ++ acks_of q = append_assoc c.echoes heard (x ∷ []) ∙ ap (λ t. c.echoes ++ t) (sym acks) in (
           i,
           LeadActs m q here h
               (shows_on Lead program past _ s (Got x) _ _ _ _ _ _ _ _ shows at (lead_hears_last program m stands q h c.world heard x acks) took (append-nil _) (append-nil _)),
         )
     hears m q heard x (y ∷ rest) here h acks shows =
-        let stands = stands_point program input limits valid i m here in
+        let stands = stands_point program input limits sites i m here in
         let more : acks_of q ≡ (heard ++ x ∷ []) ++ y ∷ rest = acks ∙ sym (append_assoc heard (x ∷ []) (y ∷ rest)) in (
           i,
           LeadAwaits m q (heard ++ x ∷ []) y rest here h more
@@ -159,14 +159,14 @@ module _ (program : MidProgram) (input : List ℕ) (limits : Limits) (valid : Is
         Shows past (Went (lead_side program m 1 heard)) c.world (c.echoes ++ heard) (c.words ++ checks_of q) c.events →
         (meet : Meet) → CanMeet Lead program (lead_side program m 1 heard) c.world meet → LeadMeets past meet → LeadGoes (after meet)
     from_await m q heard x rest here h acks shows Plain can right =
-        let stands = stands_point program input limits valid i m here in
+        let stands = stands_point program input limits sites i m here in
         let no = lead_hears_takes program m stands q h heard in absurd (cc)
     from_await m q heard x rest here h acks shows (Failed written) can right =
-        let stands = stands_point program input limits valid i m here in
+        let stands = stands_point program input limits sites i m here in
         let no = lead_hears_takes program m stands q h heard in let yes = can.0 in absurd (cc)
     from_await m q heard x rest here h acks shows Closed can right = absurd right
     from_await m q heard x rest here h acks shows (Got word) can right =
-        let stands = stands_point program input limits valid i m here in
+        let stands = stands_point program input limits sites i m here in
         let all : (ideal program input limits (suc i)).echoes ≡ (c.echoes ++ heard) ++ x ∷ rest =
         ap (λ d. d.echoes) (next_asks program c m q here stands h) ∙ ap (λ t. c.echoes ++ t) acks ∙ sym (append_assoc c.echoes heard (x ∷ rest)) in
         let same : word ≡ x = next_echo (suc i) right.0 (c.echoes ++ heard) rest word x (subst (λ t. IsPrefix (t ++ word ∷ []) (ideal program input limits right.0).echoes) shows.took_so right.1) all in
@@ -176,11 +176,11 @@ module _ (program : MidProgram) (input : List ℕ) (limits : Limits) (valid : Is
         Shows past (Went (lead_side program m 2 [])) c.world (c.echoes ++ acks_of q) (c.words ++ checks_of q) c.events →
         (x : Resumed) → resume program m (ask c.world q).response ≡ x → LeadAt program (record (answered_state program m q c) { place = place_by x }) (after Plain)
     acted m q here h shows (Back next) back =
-        let stands = stands_point program input limits valid i m here in
+        let stands = stands_point program input limits sites i m here in
         LeadStarts next refl
         (shows_on Lead program past _ s Plain _ _ _ _ _ _ _ _ shows at (lead_acts_back program m stands q h c.world next back) (append-nil _) refl refl)
     acted m q here h shows (Over end) over =
-        let stands = stands_point program input limits valid i m here in
+        let stands = stands_point program input limits sites i m here in
         LeadEnded end refl
         (shows_on Lead program past _ s Plain _ _ _ _ _ _ _ _ shows at (lead_acts_over program m stands q h c.world end over) (append-nil _) refl refl)
 
@@ -188,19 +188,19 @@ module _ (program : MidProgram) (input : List ℕ) (limits : Limits) (valid : Is
         Shows past (Went (lead_side program m 2 [])) c.world (c.echoes ++ acks_of q) (c.words ++ checks_of q) c.events →
         (meet : Meet) → CanMeet Lead program (lead_side program m 2 []) c.world meet → LeadGoes (after meet)
     from_act m q here h shows Plain can =
-        let stands = stands_point program input limits valid i m here in
+        let stands = stands_point program input limits sites i m here in
         (suc (suc i), subst (λ d. LeadAt program d (after Plain)) (sym (next_twice program c m q here stands h)) (acted m q here h shows (resume program m (ask c.world q).response) refl))
     from_act m q here h shows (Failed written) can =
-        let stands = stands_point program input limits valid i m here in (
+        let stands = stands_point program input limits sites i m here in (
           i,
           LeadFailed m q written here h
               (shows_on Lead program past _ s (Failed written) _ _ _ _ _ _ _ _ shows at (lead_fails program m stands q h c.world written) (append-nil _) (append-nil _) refl),
         )
     from_act m q here h shows (Got word) can =
-        let stands = stands_point program input limits valid i m here in
+        let stands = stands_point program input limits sites i m here in
         let no = lead_acts_takes program m stands q h in absurd (cc)
     from_act m q here h shows Closed can =
-        let stands = stands_point program input limits valid i m here in
+        let stands = stands_point program input limits sites i m here in
         let no = lead_acts_takes program m stands q h in absurd (cc)
 
     pub lead_step : LeadAt program (ideal program input limits i) past → (meet : Meet) → CanMeet Lead program s past.world meet → LeadMeets past meet → LeadGoes (after meet)

@@ -6,7 +6,6 @@ use Rattle.srmt_base.specs.declared.side.Side.{Side}
 use Rattle.srmt_base.specs.declared.side.Side.TheVariants.{Lead, Trail}
 use Rattle.mid_code.specs.declared.program.MidProgram.{MidProgram}
 use Rattle.mid_code.specs.Pairs.{HasSites}
-use Rattle.mid_code.specs.Valid.{IsValid}
 use Rattle.machine.specs.declared.thread_end.Stepped.TheVariants.{NotYet}
 use Rattle.machine.specs.Side.{SideState, Plain, Outcome, Went, Ended}
 use Rattle.machine.specs.Steps.{side_op, takes_at}
@@ -16,12 +15,12 @@ use Rattle.pair_core.proofs.Finding.{IsFound, found, alike}
 use Rattle.pair_core.proofs.Duos.{Good, Quits, good_scheduled, lead_meets, trail_meets, can_trail}
 use Rattle.pair_core.proofs.Measure.{side_left, duo_left, lead_lowers, trail_lowers}
 
-module _ (program : MidProgram) (input : List ℕ) (limits : Limits) (valid : IsValid program) (duo : DuoState) (events : List Event) (g : Good program input limits duo events) where
+module _ (program : MidProgram) (input : List ℕ) (limits : Limits) (sites : HasSites program) (duo : DuoState) (events : List Event) (g : Good program input limits duo events) where
   lead_found : (s : SideState) → duo.lead ≡ Went s → (f : Finds) → IsFound (takes_at (side_op Lead program s)) (length (next_of Lead program s duo.world Plain).events) (view_of Lead duo) f →
       (turn_found f Lead program s duo).stepped ≢ NotYet → duo_left program (turn_found f Lead program s duo).state < duo_left program duo
   lead_found s at Waits h goes = absurd (goes refl)
   lead_found s at (Meets meet left) h goes =
-      let less = lead_lowers program input limits valid g.i g.lead s (sym g.is_lead ∙ at) meet g.lead_at (subst (λ w. CanMeet Lead program s w meet) g.is_world h.0) (lead_meets program input limits valid duo events g s at meet left h.0 h.1 h.2) in
+      let less = lead_lowers program input limits sites g.i g.lead s (sym g.is_lead ∙ at) meet g.lead_at (subst (λ w. CanMeet Lead program s w meet) g.is_world h.0) (lead_meets program input limits sites duo events g s at meet left h.0 h.1 h.2) in
       let here : side_left program Lead (next_of Lead program s duo.world meet).outcome < side_left program Lead (Went s) = subst (λ w. side_left program Lead (next_of Lead program s w meet).outcome < side_left program Lead (Went s)) (sym g.is_world) less.less in
       let now : side_left program Lead duo.lead ≡ side_left program Lead (Went s) = ap (side_left program Lead) at in
       more_left _ _ _ _ now here
@@ -33,7 +32,7 @@ module _ (program : MidProgram) (input : List ℕ) (limits : Limits) (valid : Is
       (turn_found f Trail program s duo).stepped ≢ NotYet → duo_left program (turn_found f Trail program s duo).state < duo_left program duo
   trail_found s at Waits h goes = absurd (goes refl)
   trail_found s at (Meets meet left) h goes =
-      let less = trail_lowers program input limits valid g.j g.trail s (sym g.is_trail ∙ at) meet (Quits g.lead) g.trail_at (can_trail program input limits valid duo events g s at meet left h.0 h.1 h.2) (trail_meets program input limits valid duo events g s at meet left h.0 h.1 h.2) in
+      let less = trail_lowers program input limits sites g.j g.trail s (sym g.is_trail ∙ at) meet (Quits g.lead) g.trail_at (can_trail program input limits sites duo events g s at meet left h.0 h.1 h.2) (trail_meets program input limits sites duo events g s at meet left h.0 h.1 h.2) in
       let here : side_left program Trail (next_of Trail program s duo.world meet).outcome < side_left program Trail (Went s) = subst (λ o. side_left program Trail o < side_left program Trail (Went s)) (sym (alike program s duo.world g.trail.world meet).outcome) less.less in
       let now : side_left program Trail duo.trail ≡ side_left program Trail (Went s) = ap (side_left program Trail) at in
       more_left _ _ _ _ now here
@@ -55,10 +54,10 @@ module _ (program : MidProgram) (input : List ℕ) (limits : Limits) (valid : Is
 
 pub good_reached : (program : MidProgram) (input : List ℕ) (limits : Limits) (duo : DuoState) (events : List Event) → HasSites program → Reached program input limits duo events → Good program input limits duo events
 good_reached program input limits duo events sites reached =
-    subst₂ (λ d e. Good program input limits d e) (ap (λ x. x.duo) reached.1) (ap (λ x. x.events) reached.1) (good_scheduled program input limits sites.valid reached.0)
+    subst₂ (λ d e. Good program input limits d e) (ap (λ x. x.duo) reached.1) (ap (λ x. x.events) reached.1) (good_scheduled program input limits sites reached.0)
 
 -- for the loop that runs both sides in turn
 pub reached_lowers : (program : MidProgram) (input : List ℕ) (limits : Limits) (duo : DuoState) (events : List Event) → HasSites program → Reached program input limits duo events →
     (side : Side) (fails : Option ℕ) (s : SideState) → (view_of side duo).at ≡ Went s → (turn_of program side fails duo).stepped ≢ NotYet → duo_left program (turn_of program side fails duo).state < duo_left program duo
 reached_lowers program input limits duo events sites reached side fails s at goes =
-    good_lowers program input limits sites.valid duo events (good_reached program input limits duo events sites reached) side fails s at goes
+    good_lowers program input limits sites duo events (good_reached program input limits duo events sites reached) side fails s at goes

@@ -9,7 +9,7 @@ use Rattle.mid_code.specs.declared.program.MidProgram.{MidProgram}
 use Rattle.mid_code.specs.declared.version.VersionLine.{VersionLine}
 use Rattle.mid_code.specs.declared.version.Version.{Version}
 use Rattle.mid_code.specs.Machine.{Machine}
-use Rattle.mid_code.specs.Valid.{IsValid}
+use Rattle.mid_code.specs.Pairs.{HasSites}
 use Rattle.mid_code.specs.Versions.{leading_ops, version_at}
 use Rattle.word_stream.specs.declared.request.Request.{Request}
 use Rattle.word_stream.specs.declared.request.Response.{Response}
@@ -187,7 +187,7 @@ module _ (program : MidProgram) (m : Machine) (stands : Stands program m) (w : W
         (lower_over program Trail (trail_side program m (suc (length (checks_of q)))) (trail_end_here program m stands q h r end over) (omega arith))
 
 -- the steps of a side beside the ideal run
-module _ (program : MidProgram) (input : List ℕ) (limits : Limits) (valid : IsValid program) (i : ℕ) (past : Past) (s : SideState) (at : past.at ≡ Went s) where
+module _ (program : MidProgram) (input : List ℕ) (limits : Limits) (sites : HasSites program) (i : ℕ) (past : Past) (s : SideState) (at : past.at ≡ Went s) where
   known : (s₀ : SideState) → past.at ≡ Went s₀ → s₀ ≡ s
   known s₀ at₀ = let both : Went s₀ ≡ Went s = sym at₀ ∙ at in cc
 
@@ -198,16 +198,16 @@ module _ (program : MidProgram) (input : List ℕ) (limits : Limits) (valid : Is
         let same = known s₀ at₀ in
         subst₂ (λ x y. Lower program side x y meet) same (sym world) (less (subst₂ (λ x y. CanMeet side program x y meet) (sym same) world can))
 
-    pub lead_lowers : LeadAt program (ideal program input limits i) past → CanMeet Lead program s past.world meet → LeadMeets program input limits valid past meet → Lower program Lead s past.world meet
+    pub lead_lowers : LeadAt program (ideal program input limits i) past → CanMeet Lead program s past.world meet → LeadMeets program input limits sites past meet → Lower program Lead s past.world meet
     lead_lowers (LeadStarts m here shows) can right =
-        lower_there Lead _ _ shows.at_so shows.world_so can (lead_start program m (stands_point program input limits valid i m here) _ (wants program m) refl meet)
+        lower_there Lead _ _ shows.at_so shows.world_so can (lead_start program m (stands_point program input limits sites i m here) _ (wants program m) refl meet)
     lead_lowers (LeadAwaits m q heard x rest here h acks shows) can right =
         lower_there Lead _ _ shows.at_so shows.world_so can (λ can'. lead_await program m stands _ q h heard x rest acks meet can' (closes meet right) (next meet right))
       where
         stands : Stands program m
-        stands = stands_point program input limits valid i m here
+        stands = stands_point program input limits sites i m here
 
-        closes : (mt : Meet) → LeadMeets program input limits valid past mt → mt ≡ Closed → ⊥
+        closes : (mt : Meet) → LeadMeets program input limits sites past mt → mt ≡ Closed → ⊥
         closes Plain r e = cc
         closes (Got word) r e = cc
         closes Closed r e = r
@@ -216,42 +216,42 @@ module _ (program : MidProgram) (input : List ℕ) (limits : Limits) (valid : Is
         all : (ideal program input limits (suc i)).echoes ≡ past.took ++ x ∷ rest
         all = ap (λ d. d.echoes) (next_asks program (ideal program input limits i) m q here stands h) ∙ ap (λ t. (ideal program input limits i).echoes ++ t) acks ∙ sym (append_assoc (ideal program input limits i).echoes heard (x ∷ rest)) ∙ ap (λ t. t ++ x ∷ rest) (sym shows.took_so)
 
-        next : (mt : Meet) → LeadMeets program input limits valid past mt → (word : ℕ) → mt ≡ Got word → word ≡ x
+        next : (mt : Meet) → LeadMeets program input limits sites past mt → (word : ℕ) → mt ≡ Got word → word ≡ x
         next Plain r word e = absurd (cc)
-        next (Got other) r word e = let same : other ≡ word = cc in sym same ∙ next_echo program input limits valid (suc i) r.0 past.took rest other x r.1 all
+        next (Got other) r word e = let same : other ≡ word = cc in sym same ∙ next_echo program input limits sites (suc i) r.0 past.took rest other x r.1 all
         next Closed r word e = absurd r
         next (Failed written) r word e = absurd (cc)
     lead_lowers (LeadActs m q here h shows) can right =
-        lower_there Lead _ _ shows.at_so shows.world_so can (lead_act program m (stands_point program input limits valid i m here) _ q h meet)
+        lower_there Lead _ _ shows.at_so shows.world_so can (lead_act program m (stands_point program input limits sites i m here) _ q h meet)
     lead_lowers (LeadEnded end ended shows) can right = let both : Went s ≡ Ended (end_as end) = sym at ∙ shows.at_so in absurd (cc)
     lead_lowers (LeadFailed m q written here h shows) can right = let both : Went s ≡ Ended WriteFault = sym at ∙ shows.at_so in absurd (cc)
 
     module _ (quit : List ℕ → Type 0) where
-      next_check : (xs rest : List ℕ) (x : ℕ) → xs ≡ past.took → (ideal program input limits (suc i)).words ≡ xs ++ x ∷ rest → (mt : Meet) → TrailMeets program input limits valid quit past mt → (word : ℕ) → mt ≡ Got word → word ≡ x
+      next_check : (xs rest : List ℕ) (x : ℕ) → xs ≡ past.took → (ideal program input limits (suc i)).words ≡ xs ++ x ∷ rest → (mt : Meet) → TrailMeets program input limits sites quit past mt → (word : ℕ) → mt ≡ Got word → word ≡ x
       next_check xs rest x took all Plain r word e = absurd (cc)
       next_check xs rest x took all (Got other) r word e =
           let same : other ≡ word = cc in
-          sym same ∙ next_word program input limits valid quit (suc i) r.0 past.took rest other x r.1 (all ∙ ap (λ t. t ++ x ∷ rest) took)
+          sym same ∙ next_word program input limits sites quit (suc i) r.0 past.took rest other x r.1 (all ∙ ap (λ t. t ++ x ∷ rest) took)
       next_check xs rest x took all Closed r word e = absurd (cc)
       next_check xs rest x took all (Failed written) r word e = absurd (cc)
 
       asked : (m : Machine) (q : Request) → (ideal program input limits i).place ≡ Here m → wants program m ≡ Requests q → (ideal program input limits (suc i)).words ≡ (ideal program input limits i).words ++ checks_of q
-      asked m q here h = ap (λ d. d.words) (next_asks program (ideal program input limits i) m q here (stands_point program input limits valid i m here) h)
+      asked m q here h = ap (λ d. d.words) (next_asks program (ideal program input limits i) m q here (stands_point program input limits sites i m here) h)
 
-      pub trail_lowers : TrailAt program (ideal program input limits i) quit past → CanMeet Trail program s past.world meet → TrailMeets program input limits valid quit past meet → Lower program Trail s past.world meet
+      pub trail_lowers : TrailAt program (ideal program input limits i) quit past → CanMeet Trail program s past.world meet → TrailMeets program input limits sites quit past meet → Lower program Trail s past.world meet
       trail_lowers (TrailStarts m here tells) can right =
           lower_there Trail _ _ tells.at_so refl can
-          (λ can'. trail_start program m (stands_point program input limits valid i m here) _ (wants program m) refl meet can'
+          (λ can'. trail_start program m (stands_point program input limits sites i m here) _ (wants program m) refl meet can'
           (λ q y rest word h checks got. next_check (ideal program input limits i).words rest y (sym tells.took_so) (asked m q here h ∙ ap (λ t. (ideal program input limits i).words ++ t) checks) meet right word got))
       trail_lowers (TrailChecks m q done x rest here h checks tells) can right =
           lower_there Trail _ _ tells.at_so refl can
-          (λ can'. trail_check program m (stands_point program input limits valid i m here) _ q h done x rest checks meet can'
+          (λ can'. trail_check program m (stands_point program input limits sites i m here) _ q h done x rest checks meet can'
           (next_check ((ideal program input limits i).words ++ done) rest x (sym tells.took_so) (asked m q here h ∙ ap (λ t. (ideal program input limits i).words ++ t) checks ∙ sym (append_assoc (ideal program input limits i).words done (x ∷ rest))) meet right))
       trail_lowers (TrailAcks m q here h tells) can right =
           lower_there Trail _ _ tells.at_so refl can
-          (trail_acks_on program m (stands_point program input limits valid i m here) _ q h (ask (ideal program input limits i).world q).response (resume program m (ask (ideal program input limits i).world q).response) refl meet)
+          (trail_acks_on program m (stands_point program input limits sites i m here) _ q h (ask (ideal program input limits i).world q).response (resume program m (ask (ideal program input limits i).world q).response) refl meet)
       trail_lowers (TrailEnding m q r end owed h over tells) can right =
           lower_there Trail _ _ tells.at_so refl can
-          (trail_end program m (stands_owed program input limits valid i m r owed) _ q h r end over meet)
+          (trail_end program m (stands_owed program input limits sites i m r owed) _ q h r end over meet)
       trail_lowers (TrailEnded end ended tells) can right = let both : Went s ≡ Ended (end_as end) = sym at ∙ tells.at_so in absurd (cc)
       trail_lowers (TrailGone m q done x rest here h checks tells gone) can right = let both : Went s ≡ Ended PeerEnded = sym at ∙ tells.at_so in absurd (cc)

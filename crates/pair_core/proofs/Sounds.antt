@@ -4,7 +4,6 @@ use Rattle.srmt_base.specs.declared.event.Event.{Event}
 use Rattle.srmt_base.specs.declared.limits.Limits.{Limits}
 use Rattle.srmt_base.specs.declared.trap.SourceEnd.{SourceEnd}
 use Rattle.mid_code.specs.declared.program.MidProgram.{MidProgram}
-use Rattle.mid_code.specs.Valid.{IsValid}
 use Rattle.mid_code.specs.Pairs.{HasSites}
 use Rattle.world.specs.Ideal.{Ended as PlaceEnded, ideal, IsIdeal}
 use Rattle.machine.specs.declared.thread_end.ThreadEnd.{ThreadEnd}
@@ -19,7 +18,7 @@ use Rattle.pair_core.proofs.Bounds.{not_closed, lead_words, lead_events, lead_cl
 use Rattle.pair_core.proofs.Duos.{Good, Quits, good_scheduled}
 use Rattle.pair_core.proofs.Standing.{goes_on}
 
-module _ (program : MidProgram) (input : List ℕ) (limits : Limits) (valid : IsValid program) (duo : DuoState) (events : List Event) (g : Good program input limits duo events) where
+module _ (program : MidProgram) (input : List ℕ) (limits : Limits) (sites : HasSites program) (duo : DuoState) (events : List Event) (g : Good program input limits duo events) where
   lead_ended : (end : ThreadEnd) → duo.lead ≡ Ended end → is_over g.lead.at ≡ true
   lead_ended end e = ap is_over (sym g.is_lead ∙ e)
 
@@ -32,7 +31,7 @@ module _ (program : MidProgram) (input : List ℕ) (limits : Limits) (valid : Is
   -- the leading side never finds its link closed
   lead_open : g.lead.at ≡ Ended PeerEnded → ⊥
   lead_open closed =
-      let final = lead_final program input limits valid g.i g.lead g.lead_at (ap is_over closed) in
+      let final = lead_final program input limits sites g.i g.lead g.lead_at (ap is_over closed) in
       elim final.3 as (λ _. ⊥) [
         | inl ended ↦ not_closed ended.0 (same_end _ _ (sym ended.2 ∙ closed))
         | inr fault ↦ let both : PeerEnded ≡ WriteFault = same_end _ _ (sym closed ∙ fault) in cc
@@ -41,7 +40,7 @@ module _ (program : MidProgram) (input : List ℕ) (limits : Limits) (valid : Is
   -- the trailing side does where an event has failed, and all was taken
   trail_closed : g.trail.at ≡ Ended PeerEnded → (g.trail.took ≡ g.lead.sent) × IsOver g.lead.at
   trail_closed closed =
-      elim (trail_final program input limits valid g.j (Quits g.lead) g.trail g.trail_at (ap is_over closed)) as (λ _. (g.trail.took ≡ g.lead.sent) × IsOver g.lead.at) [
+      elim (trail_final program input limits sites g.j (Quits g.lead) g.trail g.trail_at (ap is_over closed)) as (λ _. (g.trail.took ≡ g.lead.sent) × IsOver g.lead.at) [
         | inl ended ↦ absurd (not_closed ended.0 (same_end _ _ (sym ended.2 ∙ closed)))
         | inr quit ↦ (quit.1, (WriteFault, quit.0))
       ]
@@ -62,13 +61,13 @@ module _ (program : MidProgram) (input : List ℕ) (limits : Limits) (valid : Is
   ends_by a b lead trail =
       let at_lead : g.lead.at ≡ Ended a = sym g.is_lead ∙ lead in
       let at_trail : g.trail.at ≡ Ended b = sym g.is_trail ∙ trail in
-      let final = lead_final program input limits valid g.i g.lead g.lead_at (lead_ended a lead) in
+      let final = lead_final program input limits sites g.i g.lead g.lead_at (lead_ended a lead) in
       elim final.3 as (λ _. (a ≡ WriteFault) ⊎ AsIdeal program input limits a b g.lead.sent events) [
         | inr fault ↦ inl (same_end _ _ (sym at_lead ∙ fault))
-        | inl ended ↦ elim (trail_final program input limits valid g.j (Quits g.lead) g.trail g.trail_at (trail_ended b trail)) as (λ _. (a ≡ WriteFault) ⊎ AsIdeal program input limits a b g.lead.sent events) [
+        | inl ended ↦ elim (trail_final program input limits sites g.j (Quits g.lead) g.trail g.trail_at (trail_ended b trail)) as (λ _. (a ≡ WriteFault) ⊎ AsIdeal program input limits a b g.lead.sent events) [
           | inr quit ↦ inl (same_end _ _ (sym at_lead ∙ quit.0))
           | inl done ↦
-              let one = one_end program input limits valid final.0 g.j ended.0 done.0 ended.1 done.1 in
+              let one = one_end program input limits sites final.0 g.j ended.0 done.0 ended.1 done.1 in
               let places : PlaceEnded done.0 ≡ PlaceEnded ended.0 = sym done.1 ∙ ap (λ c. c.place) (sym one) ∙ ended.1 in
               let same : done.0 ≡ ended.0 = cc in
               inr (record {
@@ -92,28 +91,28 @@ module _ (program : MidProgram) (input : List ℕ) (limits : Limits) (valid : Is
     acks_sent = g.acks_sent;
     words = g.words;
     acks = g.acks;
-    ideal_words = lead_words program input limits valid g.i g.lead g.lead_at;
-    ideal_events = let e = lead_events program input limits valid g.i g.lead g.lead_at in (e.0, subst (λ t. IsPrefix t (ideal program input limits e.0).events) (sym g.written) e.1);
-    lead_clean = subst IsClean (sym g.is_lead) (lead_clean program input limits valid g.i g.lead g.lead_at);
-    trail_clean = subst IsClean (sym g.is_trail) (trail_clean program input limits valid g.j (Quits g.lead) g.trail g.trail_at);
+    ideal_words = lead_words program input limits sites g.i g.lead g.lead_at;
+    ideal_events = let e = lead_events program input limits sites g.i g.lead g.lead_at in (e.0, subst (λ t. IsPrefix t (ideal program input limits e.0).events) (sym g.written) e.1);
+    lead_clean = subst IsClean (sym g.is_lead) (lead_clean program input limits sites g.i g.lead g.lead_at);
+    trail_clean = subst IsClean (sym g.is_trail) (trail_clean program input limits sites g.j (Quits g.lead) g.trail g.trail_at);
     ends = ends_by;
-    goes = goes_on program input limits valid duo events g;
+    goes = goes_on program input limits sites duo events g;
   }
 
 -- what comes first after some steps of the ideal run comes first in all that it writes
 module _ (program : MidProgram) (input : List ℕ) (limits : Limits) (sites : HasSites program) where
   pub first_words : (words all : List ℕ) (events : List Event) (end : SourceEnd) → IdealWords program input limits words → IsIdeal program input limits all events end → IsPrefix words all
   first_words words all events end first whole =
-      subst (IsPrefix words) whole.words_so (prefix_trans words (ideal program input limits first.0).words _ first.1 (below_end program input limits sites.valid whole.steps first.0 end whole.ended).words)
+      subst (IsPrefix words) whole.words_so (prefix_trans words (ideal program input limits first.0).words _ first.1 (below_end program input limits sites whole.steps first.0 end whole.ended).words)
 
   pub first_events : (events all : List Event) (words : List ℕ) (end : SourceEnd) → IdealEvents program input limits events → IsIdeal program input limits words all end → IsPrefix events all
   first_events events all words end first whole =
-      subst (IsPrefix events) whole.events_so (prefix_trans events (ideal program input limits first.0).events _ first.1 (below_end program input limits sites.valid whole.steps first.0 end whole.ended).events)
+      subst (IsPrefix events) whole.events_so (prefix_trans events (ideal program input limits first.0).events _ first.1 (below_end program input limits sites whole.steps first.0 end whole.ended).events)
 
 -- every schedule
 pub sound_scheduled : (program : MidProgram) (input : List ℕ) (limits : Limits) → HasSites program → (entries : List Entry) → Sound program input limits (scheduled program input limits entries).duo (scheduled program input limits entries).events
 sound_scheduled program input limits sites entries =
-    sound program input limits sites.valid (scheduled program input limits entries).duo (scheduled program input limits entries).events (good_scheduled program input limits sites.valid entries)
+    sound program input limits sites (scheduled program input limits entries).duo (scheduled program input limits entries).events (good_scheduled program input limits sites entries)
 
 pub sound_reached : (program : MidProgram) (input : List ℕ) (limits : Limits) (duo : DuoState) (events : List Event) → HasSites program → Reached program input limits duo events → Sound program input limits duo events
 sound_reached program input limits duo events sites reached =

@@ -6,7 +6,7 @@ use Rattle.srmt_base.specs.declared.limits.Limits.{Limits}
 use Rattle.srmt_base.specs.declared.side.Side.{Side}
 use Rattle.srmt_base.specs.declared.side.Side.TheVariants.{Lead, Trail}
 use Rattle.mid_code.specs.declared.program.MidProgram.{MidProgram}
-use Rattle.mid_code.specs.Valid.{IsValid}
+use Rattle.mid_code.specs.Pairs.{HasSites}
 use Rattle.world.specs.Ideal.{ideal}
 use Rattle.machine.specs.declared.thread_end.Stepped.TheVariants.{NotYet}
 use Rattle.machine.specs.Side.{SideState, Outcome, Went, Ended}
@@ -40,21 +40,21 @@ module _ (side : Side) (program : MidProgram) (duo : DuoState) (s : SideState) (
   pub tried : CanGo program side duo ⊎ Why (takes_at (side_op side program s)) (may_send_at (side_op side program s)) (view_of side duo)
   tried = tried_found (finds side program s duo.world None (view_of side duo)) refl
 
-module _ (program : MidProgram) (input : List ℕ) (limits : Limits) (valid : IsValid program) (duo : DuoState) (events : List Event) (g : Good program input limits duo events) where
+module _ (program : MidProgram) (input : List ℕ) (limits : Limits) (sites : HasSites program) (duo : DuoState) (events : List Event) (g : Good program input limits duo events) where
   more_words : (k l : ℕ) → k ≤ l → length (ideal program input limits k).words ≤ length (ideal program input limits l).words
-  more_words k l h = prefix_length _ _ (grows program input limits valid k l h).words
+  more_words k l h = prefix_length _ _ (grows program input limits sites k l h).words
 
   more_echoes : (k l : ℕ) → k ≤ l → length (ideal program input limits k).echoes ≤ length (ideal program input limits l).echoes
-  more_echoes k l h = prefix_length _ _ (grows program input limits valid k l h).echoes
+  more_echoes k l h = prefix_length _ _ (grows program input limits sites k l h).echoes
 
   module _ (s t : SideState) (lead : duo.lead ≡ Went s) (trail : duo.trail ≡ Went t) where
     -- both wait for words: the leading side has sent all words of its request, and the trailing side
     -- all acknowledgements of those before its own
     both_hungry : takes_at (side_op Lead program s) ≡ true → duo.acks ≡ [] → takes_at (side_op Trail program t) ≡ true → duo.words ≡ [] → ⊥
     both_hungry hears acks checks words =
-        let h = lead_hearing program input limits valid g.i g.lead s (sym g.is_lead ∙ lead) g.lead_at hears in
-        let c = trail_checking program input limits valid g.j (Quits g.lead) g.trail t (sym g.is_trail ∙ trail) g.trail_at checks in
-        let e = trail_echoes program input limits valid g.j (Quits g.lead) g.trail g.trail_at in
+        let h = lead_hearing program input limits sites g.i g.lead s (sym g.is_lead ∙ lead) g.lead_at hears in
+        let c = trail_checking program input limits sites g.j (Quits g.lead) g.trail t (sym g.is_trail ∙ trail) g.trail_at checks in
+        let e = trail_echoes program input limits sites g.j (Quits g.lead) g.trail g.trail_at in
         let way = ap length g.words in
         let back = ap length g.acks in
         let no_words = ap length words in
@@ -69,9 +69,9 @@ module _ (program : MidProgram) (input : List ℕ) (limits : Limits) (valid : Is
     -- both wait for room: what the trailing side has taken it has not yet acknowledged
     both_crowded : takes_at (side_op Lead program s) ≡ false → takes_at (side_op Trail program t) ≡ false → may_send_at (side_op Trail program t) ≡ true → 0 < length duo.acks → ⊥
     both_crowded rests no_check acking many =
-        let r = lead_resting program input limits valid g.i g.lead s (sym g.is_lead ∙ lead) g.lead_at rests in
-        let a = trail_acking program input limits valid g.j (Quits g.lead) g.trail t (sym g.is_trail ∙ trail) g.trail_at no_check acking in
-        let e = trail_echoes program input limits valid g.j (Quits g.lead) g.trail g.trail_at in
+        let r = lead_resting program input limits sites g.i g.lead s (sym g.is_lead ∙ lead) g.lead_at rests in
+        let a = trail_acking program input limits sites g.j (Quits g.lead) g.trail t (sym g.is_trail ∙ trail) g.trail_at no_check acking in
+        let e = trail_echoes program input limits sites g.j (Quits g.lead) g.trail g.trail_at in
         elim (cases_lt g.j r.0) as (λ _. ⊥) [
           | inl less ↦
               omega (arith, many, more_echoes g.j r.0 (omega arith), ap length e, ap length r.2, ap length g.acks, length-append g.lead.took duo.acks)

@@ -55,7 +55,7 @@ module _ (program : MidProgram) (m : Machine) (stands : Stands program m) (n : N
   after_group ops group e = next_start program m stands n ops ∙ ap (λ o. group_place ops program m + length (with_line n.line.line o)) e
 
   -- an instruction that both sides perform
-  module _ (next : Machine) (h : wants program m ≡ Runs next) (g : CopiedGroup (next_site program m) m next n.line) where
+  module _ (next : Machine) (h : wants program m ≡ Runs next) (g : CopiedGroup program (next_site program m) m next n.line) where
     copied_next : (ops : ℕ → Mid → List VersionOp) → ops (next_site program m) n.line.mid ≡ Copied n.line.mid ∷ [] → group_place ops program m + 0 + 1 ≡ group_place ops program next + 0
     copied_next ops e =
         let at : group_place ops program next ≡ group_place ops program (passed m) = ap₂ (λ f p. group_start ops program f p (function_at program f)) g.function g.place in
@@ -70,14 +70,14 @@ module _ (program : MidProgram) (m : Machine) (stands : Stands program m) (n : N
     lead_goes_by : (w : WorldState) → lead_next program (lead_side program m 0 []) w Plain ≡ gave (Went (lead_side program next 0 [])) [] w []
     unfolding lead_next
     lead_goes_by w =
-        ap (λ o. lead_at o (lead_side program m 0 []) w Plain) lead_copied
+        ap (λ o. lead_at program o (lead_side program m 0 []) w Plain) lead_copied
         ∙ ap (λ d. quiet w (performed d (lead_side program m 0 []))) (g.anywhere (group_place leading_ops program m + 0))
         ∙ ap (λ p. quiet w (Went (record { machine = put_at p next; heard = [] }))) (copied_next leading_ops g.lead)
 
     trail_goes_by : (w : WorldState) → trail_next program (trail_side program m 0) w Plain ≡ gave (Went (trail_side program next 0)) [] w []
     unfolding trail_next
     trail_goes_by w =
-        ap (λ o. trail_at o (trail_side program m 0) w Plain) trail_copied
+        ap (λ o. trail_at program o (trail_side program m 0) w Plain) trail_copied
         ∙ ap (λ d. quiet w (performed d (trail_side program m 0))) (g.anywhere (group_place trailing_ops program m + 0))
         ∙ ap (λ p. quiet w (Went (record { machine = put_at p next; heard = [] }))) (copied_next trailing_ops g.trail)
 
@@ -144,7 +144,7 @@ module _ (program : MidProgram) (m : Machine) (stands : Stands program m) (n : N
     pub lead_asks_by : (w : WorldState) → lead_next program (lead_side program m 0 []) w Plain ≡ gave (Went (lead_side program m 1 [])) (checks_of q) w []
     unfolding lead_next
     lead_asks_by w =
-        ap (λ o. lead_at o (lead_side program m 0 []) w Plain) ask_op
+        ap (λ o. lead_at program o (lead_side program m 0 []) w Plain) ask_op
         ∙ ap (λ x. gave (Went (record { machine = x; heard = [] })) (word_of CheckKind g.site.0 (register m g.source) ∷ []) w []) (passed_within leading_ops program m 0)
         ∙ ap (λ ws. gave (Went (lead_side program m 1 [])) ws w []) (sym g.checks)
 
@@ -153,7 +153,7 @@ module _ (program : MidProgram) (m : Machine) (stands : Stands program m) (n : N
     lead_hears_one w =
         let own : ℕ = word_of AckKind g.site.0 (register m g.source) in
         let s : SideState = lead_side program m 1 [] in
-        ap (λ o. lead_at o s w (Got own)) (await_op [])
+        ap (λ o. lead_at program o s w (Got own)) (await_op [])
         ∙ ap (λ b. quiet w (if b then Went (passed_on s) else Ended (Echo own own))) (eq-eqb own own refl)
         ∙ ap (λ x. gave (Went (record { machine = x; heard = [] })) [] w []) (passed_within leading_ops program m 1)
 
@@ -165,13 +165,13 @@ module _ (program : MidProgram) (m : Machine) (stands : Stands program m) (n : N
     pub lead_acts_by : (w : WorldState) → lead_next program (lead_side program m 2 []) w Plain ≡ acts Plain q (ask w q) (lead_side program m 2 []) w
     unfolding lead_next
     lead_acts_by w =
-        ap (λ o. lead_at o (lead_side program m 2 []) w Plain) act_op
+        ap (λ o. lead_at program o (lead_side program m 2 []) w Plain) act_op
         ∙ ap (λ x. acts Plain x (ask w x) (lead_side program m 2 []) w) g.request
 
     pub lead_fails_by : (w : WorldState) (written : ℕ) → lead_next program (lead_side program m 2 []) w (Failed written) ≡ gave (Ended WriteFault) [] (stopped w) (take written (ask w q).events)
     unfolding lead_next
     lead_fails_by w written =
-        ap (λ o. lead_at o (lead_side program m 2 []) w (Failed written)) act_op
+        ap (λ o. lead_at program o (lead_side program m 2 []) w (Failed written)) act_op
         ∙ ap (λ x. acts (Failed written) x (ask w x) (lead_side program m 2 []) w) g.request
 
     -- both sides go on behind the group
@@ -190,18 +190,18 @@ module _ (program : MidProgram) (m : Machine) (stands : Stands program m) (n : N
     trail_checks_one w =
         let own : ℕ = word_of CheckKind g.site.0 (register m g.source) in
         let s : SideState = trail_side program m 0 in
-        ap (λ o. trail_at o s w (Got own)) check_op
+        ap (λ o. trail_at program o s w (Got own)) check_op
         ∙ ap (λ b. quiet w (if b then Went (passed_on s) else Ended (Mismatch own own))) (eq-eqb own own refl)
         ∙ ap (λ x. gave (Went (record { machine = x; heard = [] })) [] w []) (passed_within trailing_ops program m 0)
 
     pub trail_closed_by : (w : WorldState) → trail_next program (trail_side program m 0) w Closed ≡ gave (Ended PeerEnded) [] w []
     unfolding trail_next
-    trail_closed_by w = ap (λ o. trail_at o (trail_side program m 0) w Closed) check_op
+    trail_closed_by w = ap (λ o. trail_at program o (trail_side program m 0) w Closed) check_op
 
     pub trail_acks_by : (w : WorldState) → trail_next program (trail_side program m 1) w Plain ≡ gave (Went (passed_on (trail_side program m 1))) (acks_of q) w []
     unfolding trail_next
     trail_acks_by w =
-        ap (λ o. trail_at o (trail_side program m 1) w Plain) ack_op
+        ap (λ o. trail_at program o (trail_side program m 1) w Plain) ack_op
         ∙ ap (λ ws. gave (Went (passed_on (trail_side program m 1))) ws w []) (sym g.acks)
 
     pub end_op : g.tail ≡ End g.source ∷ [] → side_op Trail program (trail_side program m 2) ≡ Some (record { line = n.line.line; op = End g.source })
@@ -211,5 +211,5 @@ module _ (program : MidProgram) (m : Machine) (stands : Stands program m) (n : N
     unfolding trail_next
     trail_ends_by w r end over =
         let o = g.over r end over in
-        ap (λ op. trail_at op (trail_side program m 2) w Plain) (end_op o.0)
+        ap (λ op. trail_at program op (trail_side program m 2) w Plain) (end_op o.0)
         ∙ ap (λ e. gave (Ended e) [] w []) o.1

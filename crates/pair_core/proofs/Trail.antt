@@ -5,7 +5,7 @@ use Rattle.srmt_base.specs.declared.side.Side.TheVariants.{Trail}
 use Rattle.srmt_base.specs.declared.trap.SourceEnd.{SourceEnd}
 use Rattle.mid_code.specs.declared.program.MidProgram.{MidProgram}
 use Rattle.mid_code.specs.Machine.{Machine}
-use Rattle.mid_code.specs.Valid.{IsValid}
+use Rattle.mid_code.specs.Pairs.{HasSites}
 use Rattle.word_stream.specs.declared.request.Request.{Request}
 use Rattle.word_stream.specs.declared.request.Response.{Response}
 use Rattle.word_stream.specs.Exchange.{response_words, checks_of}
@@ -72,7 +72,7 @@ trail_as program c quit other past f (TrailEnding m q r end owed h over tells) =
 trail_as program c quit other past f (TrailEnded end ended tells) = TrailEnded end ended tells
 trail_as program c quit other past f (TrailGone m q done x rest here h checks tells gone) = TrailGone m q done x rest here h checks tells (f past.took gone)
 
-module _ (program : MidProgram) (input : List ℕ) (limits : Limits) (valid : IsValid program) (quit : List ℕ → Type 0) where
+module _ (program : MidProgram) (input : List ℕ) (limits : Limits) (sites : HasSites program) (quit : List ℕ → Type 0) where
   abbrev TrailGoes : Past → Type 0
   TrailGoes past = (j : ℕ) × TrailAt program (ideal program input limits j) quit past
 
@@ -86,8 +86,8 @@ module _ (program : MidProgram) (input : List ℕ) (limits : Limits) (valid : Is
   pub next_word : (i k : ℕ) (xs rest : List ℕ) (x y : ℕ) → IsPrefix (xs ++ x ∷ []) (ideal program input limits k).words → (ideal program input limits i).words ≡ xs ++ y ∷ rest → x ≡ y
   next_word i k xs rest x y p e =
       let all = (ideal program input limits (i + k)).words in
-      let first : IsPrefix (xs ++ x ∷ []) all = prefix_trans _ _ _ p (grows program input limits valid k (i + k) (omega arith)).words in
-      let second : IsPrefix (xs ++ y ∷ rest) all = subst (λ t. IsPrefix t all) e (grows program input limits valid i (i + k) (omega arith)).words in
+      let first : IsPrefix (xs ++ x ∷ []) all = prefix_trans _ _ _ p (grows program input limits sites k (i + k) (omega arith)).words in
+      let second : IsPrefix (xs ++ y ∷ rest) all = subst (λ t. IsPrefix t all) e (grows program input limits sites i (i + k) (omega arith)).words in
       next_of_two xs rest all x y first second
 
   module _ (i : ℕ) (past : Past) (s : SideState) (at : past.at ≡ Went s) where
@@ -106,7 +106,7 @@ module _ (program : MidProgram) (input : List ℕ) (limits : Limits) (valid : Is
     checked : (m : Machine) (q : Request) (done : List ℕ) (x : ℕ) (rest : List ℕ) → c.place ≡ Here m → wants program m ≡ Requests q → checks_of q ≡ done ++ x ∷ rest →
         Tells past (Went (trail_side program m (length done))) (c.words ++ done) c.echoes → TrailGoes (after (Got x))
     checked m q done x [] here h checks tells =
-        let stands = stands_point program input limits valid i m here in
+        let stands = stands_point program input limits sites i m here in
         let took : (c.words ++ done) ++ x ∷ [] ≡ c.words ++ checks_of q = append_assoc c.words done (x ∷ []) ∙ ap (λ t. c.words ++ t) (sym checks) in
         let place : suc (length done) ≡ length (checks_of q) = omega (arith, ap length checks, length-append done (x ∷ [])) in (
           i,
@@ -114,7 +114,7 @@ module _ (program : MidProgram) (input : List ℕ) (limits : Limits) (valid : Is
               (tells_on program past _ s (Got x) _ _ _ _ _ _ tells at (trail_checks program m stands q h past.world done x [] checks) (ap (λ k. Went (trail_side program m k)) place) took (append-nil _)),
         )
     checked m q done x (y ∷ rest) here h checks tells =
-        let stands = stands_point program input limits valid i m here in
+        let stands = stands_point program input limits sites i m here in
         let more : checks_of q ≡ (done ++ x ∷ []) ++ y ∷ rest = checks ∙ sym (append_assoc done (x ∷ []) (y ∷ rest)) in
         let place : suc (length done) ≡ length (done ++ x ∷ []) = omega (arith, length-append done (x ∷ [])) in (
           i,
@@ -126,19 +126,19 @@ module _ (program : MidProgram) (input : List ℕ) (limits : Limits) (valid : Is
         Tells past (Went (trail_side program m (length done))) (c.words ++ done) c.echoes →
         (meet : Meet) → CanMeet Trail program (trail_side program m (length done)) past.world meet → TrailMeets past meet → TrailGoes (after meet)
     from_check m q done x rest here h checks tells Plain can right =
-        let stands = stands_point program input limits valid i m here in
+        let stands = stands_point program input limits sites i m here in
         let no = trail_checks_takes program m stands q h done x rest checks in absurd (cc)
     from_check m q done x rest here h checks tells (Failed written) can right =
-        let stands = stands_point program input limits valid i m here in
+        let stands = stands_point program input limits sites i m here in
         let no = trail_checks_takes program m stands q h done x rest checks in let yes = can.0 in absurd (cc)
     from_check m q done x rest here h checks tells Closed can right =
-        let stands = stands_point program input limits valid i m here in (
+        let stands = stands_point program input limits sites i m here in (
           i,
           TrailGone m q done x rest here h checks
               (tells_on program past _ s Closed _ _ _ _ _ _ tells at (trail_closed program m stands q h past.world done x rest checks) refl (append-nil _) (append-nil _)) right,
         )
     from_check m q done x rest here h checks tells (Got word) can right =
-        let stands = stands_point program input limits valid i m here in
+        let stands = stands_point program input limits sites i m here in
         let all : (ideal program input limits (suc i)).words ≡ (c.words ++ done) ++ x ∷ rest =
         ap (λ d. d.words) (next_asks program c m q here stands h) ∙ ap (λ t. c.words ++ t) checks ∙ sym (append_assoc c.words done (x ∷ rest)) in
         let same : word ≡ x = next_word (suc i) right.0 (c.words ++ done) rest word x (subst (λ t. IsPrefix (t ++ word ∷ []) (ideal program input limits right.0).words) tells.took_so right.1) all in
@@ -147,26 +147,26 @@ module _ (program : MidProgram) (input : List ℕ) (limits : Limits) (valid : Is
     from_start : (m : Machine) → c.place ≡ Here m → Tells past (Went (trail_side program m 0)) c.words c.echoes →
         (x : Wants) → wants program m ≡ x → (meet : Meet) → CanMeet Trail program (trail_side program m 0) past.world meet → TrailMeets past meet → TrailGoes (after meet)
     from_start m here tells (Runs next) h Plain can right =
-        let stands = stands_point program input limits valid i m here in (
+        let stands = stands_point program input limits sites i m here in (
           suc i,
           subst (λ d. TrailAt program d quit (after Plain)) (sym (next_runs program c m next here h)) (TrailStarts next refl
               (tells_on program past _ s Plain _ _ _ _ _ _ tells at (trail_goes program m stands (next_line program m stands) next past.world h) refl (append-nil _) (append-nil _))),
         )
     from_start m here tells (Runs next) h (Got word) can right =
-        let stands = stands_point program input limits valid i m here in
+        let stands = stands_point program input limits sites i m here in
         let no = trail_runs_takes program m stands (next_line program m stands) next h in absurd (cc)
     from_start m here tells (Runs next) h Closed can right =
-        let stands = stands_point program input limits valid i m here in
+        let stands = stands_point program input limits sites i m here in
         let no = trail_runs_takes program m stands (next_line program m stands) next h in absurd (cc)
     from_start m here tells (Runs next) h (Failed written) can right =
-        let stands = stands_point program input limits valid i m here in
+        let stands = stands_point program input limits sites i m here in
         let none = ap (λ g. length g.events) (trail_goes program m stands (next_line program m stands) next past.world h) in absurd (omega (arith, can.1, none))
     from_start m here tells (Dies trap line) h meet can right =
-        let stands = stands_point program input limits valid i m here in absurd (never_dies program m stands (next_line program m stands) trap line h)
+        let stands = stands_point program input limits sites i m here in absurd (never_dies program m stands (next_line program m stands) trap line h)
     from_start m here tells Lost h meet can right =
-        let stands = stands_point program input limits valid i m here in absurd (never_lost program m stands (next_line program m stands) h)
+        let stands = stands_point program input limits sites i m here in absurd (never_lost program m stands (next_line program m stands) h)
     from_start m here tells (Requests q) h meet can right =
-        let stands = stands_point program input limits valid i m here in
+        let stands = stands_point program input limits sites i m here in
         let some = checks_some program m stands q h in
         from_check m q [] some.0 some.1 here h some.2
         (record { at_so = tells.at_so; took_so = tells.took_so ∙ sym (append-nil c.words); sent_so = tells.sent_so }) meet can right
@@ -174,7 +174,7 @@ module _ (program : MidProgram) (input : List ℕ) (limits : Limits) (valid : Is
     acked : (m : Machine) (q : Request) → c.place ≡ Here m → wants program m ≡ Requests q → Tells past (Went (trail_side program m (length (checks_of q)))) (c.words ++ checks_of q) c.echoes →
         (x : Resumed) → resume program m (ask c.world q).response ≡ x → TrailGoes (after Plain)
     acked m q here h tells (Back next) back =
-        let stands = stands_point program input limits valid i m here in
+        let stands = stands_point program input limits sites i m here in
         let r = (ask c.world q).response in
         let words : (c.words ++ checks_of q) ++ [] ≡ (c.words ++ checks_of q) ++ response_words q r = ap (λ t. (c.words ++ checks_of q) ++ t) (sym (none_answered program m stands q h r)) in
         let place : (answered_state program m q c).place ≡ Here next = ap place_by back in (
@@ -183,7 +183,7 @@ module _ (program : MidProgram) (input : List ℕ) (limits : Limits) (valid : Is
               (tells_on program past _ s Plain _ _ _ _ _ _ tells at (trail_acks_back program m stands q h past.world r next back) refl words refl)),
         )
     acked m q here h tells (Over end) over =
-        let stands = stands_point program input limits valid i m here in
+        let stands = stands_point program input limits sites i m here in
         let r = (ask c.world q).response in (
           suc i,
           subst (λ d. TrailAt program d quit (after Plain)) (sym (next_asks program c m q here stands h)) (TrailEnding m q r end refl h over
@@ -194,13 +194,13 @@ module _ (program : MidProgram) (input : List ℕ) (limits : Limits) (valid : Is
         (meet : Meet) → CanMeet Trail program (trail_side program m (length (checks_of q))) past.world meet → TrailGoes (after meet)
     from_acks m q here h tells Plain can = acked m q here h tells (resume program m (ask c.world q).response) refl
     from_acks m q here h tells (Got word) can =
-        let stands = stands_point program input limits valid i m here in
+        let stands = stands_point program input limits sites i m here in
         let no = trail_acks_takes program m stands q h in absurd (cc)
     from_acks m q here h tells Closed can =
-        let stands = stands_point program input limits valid i m here in
+        let stands = stands_point program input limits sites i m here in
         let no = trail_acks_takes program m stands q h in absurd (cc)
     from_acks m q here h tells (Failed written) can =
-        let stands = stands_point program input limits valid i m here in
+        let stands = stands_point program input limits sites i m here in
         let no_event : (x : Resumed) → resume program m (ask c.world q).response ≡ x → length (trail_next program (trail_side program m (length (checks_of q))) past.world Plain).events ≡ 0 = none m q stands h in
         absurd (omega (arith, can.1, no_event (resume program m (ask c.world q).response) refl))
       where
@@ -212,7 +212,7 @@ module _ (program : MidProgram) (input : List ℕ) (limits : Limits) (valid : Is
         Tells past (Went (trail_side program m (suc (length (checks_of q))))) c.words c.echoes →
         (meet : Meet) → CanMeet Trail program (trail_side program m (suc (length (checks_of q)))) past.world meet → TrailGoes (after meet)
     from_ending m q r end owed h over tells Plain can =
-        let stands = stands_owed program input limits valid i m r owed in
+        let stands = stands_owed program input limits sites i m r owed in
         let place : (owed_next program m r c).place ≡ PlaceEnded end = ap place_by over in
         let words : c.words ++ [] ≡ c.words ++ words_owed (wants program m) r = ap (λ t. c.words ++ t) (sym (ap (λ x. words_owed x r) h ∙ none_answered program m stands q h r)) in (
           suc i,
@@ -220,11 +220,11 @@ module _ (program : MidProgram) (input : List ℕ) (limits : Limits) (valid : Is
               (tells_on program past _ s Plain _ _ _ _ _ _ tells at (trail_ends program m stands q h past.world r end over) refl words (append-nil _))),
         )
     from_ending m q r end owed h over tells (Got word) can =
-        let no = trail_ends_takes program m (stands_owed program input limits valid i m r owed) q h r end over in absurd (cc)
+        let no = trail_ends_takes program m (stands_owed program input limits sites i m r owed) q h r end over in absurd (cc)
     from_ending m q r end owed h over tells Closed can =
-        let no = trail_ends_takes program m (stands_owed program input limits valid i m r owed) q h r end over in absurd (cc)
+        let no = trail_ends_takes program m (stands_owed program input limits sites i m r owed) q h r end over in absurd (cc)
     from_ending m q r end owed h over tells (Failed written) can =
-        let none = ap (λ g. length g.events) (trail_ends program m (stands_owed program input limits valid i m r owed) q h past.world r end over) in absurd (omega (arith, can.1, none))
+        let none = ap (λ g. length g.events) (trail_ends program m (stands_owed program input limits sites i m r owed) q h past.world r end over) in absurd (omega (arith, can.1, none))
 
     pub trail_step : TrailAt program (ideal program input limits i) quit past → (meet : Meet) → CanMeet Trail program s past.world meet → TrailMeets past meet → TrailGoes (after meet)
     trail_step (TrailStarts m here tells) meet can right = from_start m here tells (wants program m) refl meet (can_there _ _ _ meet tells can) right

@@ -27,8 +27,8 @@ pub record DuoState : Type 0 where
 
 abbrev pub opening_duo : MidProgram → List ℕ → Limits → DuoState
 opening_duo program input limits = record {
-  lead = Went (opening program);
-  trail = Went (opening program);
+  lead = Went (opening program limits);
+  trail = Went (opening program limits);
   world = opened program input limits;
   words = [];
   acks = [];

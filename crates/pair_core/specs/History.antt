@@ -17,7 +17,7 @@ pub record Past : Type 0 where
   pub events : List Event
 
 abbrev pub opening_past : MidProgram → List ℕ → Limits → Past
-opening_past program input limits = record { at = Went (opening program); world = opened program input limits; took = []; sent = []; events = [] }
+opening_past program input limits = record { at = Went (opening program limits); world = opened program input limits; took = []; sent = []; events = [] }
 
 -- the word that a step takes
 abbrev pub word_met : Meet → List ℕ
