@@ -7,7 +7,7 @@ use Rattle.std.specs.Prelude.{not}
 use Rattle.std.proofs.Math.ListN.{get_or-map}
 use Rattle.machine.specs.declared.thread_end.ThreadEnd.TheVariants.{Echo}
 use Rattle.machine.specs.Side.{SideState, Outcome, Ended, Went}
-use Rattle.machine.specs.Steps.{passed_on, operands}
+use Rattle.machine.specs.Steps.{operands}
 use Rattle.machine.specs.Leading.{compared, heard_by}
 
 -- the word at a place, and the side's own there

@@ -1,6 +1,6 @@
 -- A side that fits stands at an instruction that fits, and fits after it.
-use Rattle.std.proofs.Common.{◌≡◌, ℕ, ◌+◌, ◌<◌, ◌≤◌, ◌^◌, List, [], ◌∷◌, length, Option, Some, None, refl, sym, ap, ◌∙◌, subst, arith}
-use Rattle.std.specs.Prelude.{All, slice_get, slice_set}
+use Rattle.std.proofs.Common.{◌≡◌, ℕ, ◌+◌, ◌<◌, ◌^◌, List, [], length, Some, refl, sym, ap, ◌∙◌, subst, arith}
+use Rattle.std.specs.Prelude.{All}
 use Rattle.std.proofs.lemmas.List.{length-set, length-replicate}
 use Rattle.std.proofs.lemmas.List.Elements.{All-set, All-replicate}
 use Rattle.srmt_base.specs.declared.side.Side.{Side}
@@ -14,17 +14,16 @@ use Rattle.mid_code.specs.declared.program.MidFunction.{MidFunction}
 use Rattle.mid_code.specs.declared.program.MidProgram.{MidProgram}
 use Rattle.mid_code.specs.declared.version.VersionOp.{VersionOp}
 use Rattle.mid_code.specs.declared.version.VersionOp.TheVariants.{Copied, Ask, Await, Act, Check, Ack, End}
-use Rattle.mid_code.specs.declared.version.VersionLine.{VersionLine}
 use Rattle.mid_code.specs.Program.{function_at}
 use Rattle.mid_code.specs.Valid.{AreFit, IsValid}
-use Rattle.mid_code.specs.Classes.{site_at, protected_functions}
+use Rattle.mid_code.specs.Classes.{site_at}
 use Rattle.mid_code.specs.Versions.{version_at}
 use Rattle.mid_code.specs.Machine.{Machine, Goes, act, given, register}
-use Rattle.mid_code.specs.Meaning.{started, register_count}
+use Rattle.mid_code.specs.Meaning.{register_count}
 use Rattle.mid_code.proofs.Fitting.{valid_function, one_within}
 use Rattle.mid_code.proofs.Fetching.{fetch, group_of}
 use Rattle.machine.specs.Side.{SideState, opening}
-use Rattle.machine.specs.Steps.{versions_of, side_op, passed_on}
+use Rattle.machine.specs.Steps.{versions_of, passed_on}
 use Rattle.machine.specs.Fits.{HeardFits, SideFits}
 use Rattle.machine.proofs.Groups.{IsLast, OpFits, ops_of, group_fits}
 use Rattle.machine.proofs.Placed.{Placed, placed, length-with_line, versions_so}

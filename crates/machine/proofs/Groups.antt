@@ -1,5 +1,5 @@
 -- What the instructions of a version are like: one case for each instruction of middle code.
-use Rattle.std.proofs.Common.{lit≤, ◌≡◌, ℕ, zero, suc, ◌+◌, ◌-◌, ◌<◌, ◌≤◌, ◌^◌, List, [], ◌∷◌, length, Option, Some, None, refl, sym, ap, ◌∙◌, subst, arith}
+use Rattle.std.proofs.Common.{lit≤, ◌≡◌, ℕ, zero, suc, ◌-◌, ◌<◌, ◌≤◌, List, [], ◌∷◌, length, Some, subst}
 use Rattle.std.specs.Prelude.{All, slice_get}
 use Rattle.std.proofs.lemmas.List.Elements.{All-cons, All-nil}
 use Rattle.std.proofs.lemmas.Option.{slice_get_within}
@@ -16,10 +16,8 @@ use Rattle.mid_code.specs.declared.version.VersionOp.{VersionOp}
 use Rattle.mid_code.specs.declared.version.VersionOp.TheVariants.{Copied, Ask, Await, Act, Check, Ack, End}
 use Rattle.mid_code.specs.Classes.{site_of}
 use Rattle.mid_code.specs.Valid.{AreFit, IsFinal}
-use Rattle.mid_code.specs.Fits.{AreWithin}
 use Rattle.mid_code.specs.Machine.{Machine, Reaches, act}
 use Rattle.mid_code.specs.Versions.{leading_ops, trailing_ops}
-use Rattle.mid_code.proofs.Fitting.{within_fit}
 
 -- the side ends with this instruction, unless it ends before
 abbrev pub acts_last : Asks → Type 0

@@ -1,6 +1,6 @@
 -- A side that has not ended fits after a step, and its world lives on.
-use Rattle.std.proofs.Common.{◌≡◌, ℕ, ◌+◌, ◌<◌, ◌≤◌, ◌^◌, Bool, true, false, List, [], ◌∷◌, ◌++◌, length, map, nat_lt, nat_eq, cond, Option, Some, None, refl, sym, ap, ◌∙◌, subst, arith}
-use Rattle.std.specs.Prelude.{All, IsTrue}
+use Rattle.std.proofs.Common.{◌≡◌, ℕ, ◌<◌, ◌^◌, Bool, true, false, List, [], ◌∷◌, ◌++◌, length, nat_lt, nat_eq, cond, refl, sym, ap, ◌∙◌, subst, arith}
+use Rattle.std.specs.Prelude.{All}
 use Rattle.std.proofs.lemmas.List.{length-map}
 use Rattle.std.proofs.lemmas.Bool.{ltb-true}
 use Rattle.srmt_base.specs.declared.side.Side.{Side}
@@ -13,18 +13,14 @@ use Rattle.mid_code.specs.declared.version.Asks.{Asks}
 use Rattle.mid_code.specs.declared.version.Asks.TheVariants.{Put as AskPut, Exit as AskExit}
 use Rattle.mid_code.specs.declared.version.VersionOp.{VersionOp}
 use Rattle.mid_code.specs.declared.version.VersionOp.TheVariants.{Copied, Ask, Await, Act, Check, Ack, End}
-use Rattle.mid_code.specs.declared.version.VersionLine.{VersionLine}
 use Rattle.mid_code.specs.Valid.{IsValid}
 use Rattle.mid_code.specs.Machine.{Machine, Does, Goes, Traps, Reaches, Lost, act, register}
-use Rattle.word_stream.specs.declared.request.Response.{Response}
 use Rattle.word_stream.specs.Exchange.{ack_words}
 use Rattle.world.specs.World.{WorldState, Asked, ask}
 use Rattle.machine.specs.declared.thread_end.ThreadEnd.TheVariants.{Echo, Mismatch}
-use Rattle.machine.specs.declared.thread_end.Stepped.{Stepped}
-use Rattle.machine.specs.declared.thread_end.Stepped.TheVariants.{Went as Made, NotYet, Ended as MadeLast}
-use Rattle.machine.specs.Side.{SideState, Meet, Plain, Got, Closed, Failed, Outcome, Went, Ended, StepGives}
-use Rattle.machine.specs.Steps.{side_op, operands, passed_on, performed}
-use Rattle.machine.specs.Leading.{compared, heard_by, awaits, act_request, answered, acts, lead_op, lead_at, lead_next}
+use Rattle.machine.specs.Side.{SideState, Meet, Plain, Got, Closed, Failed, Outcome, Went, Ended}
+use Rattle.machine.specs.Steps.{operands, passed_on, performed}
+use Rattle.machine.specs.Leading.{compared, heard_by, awaits, act_request, acts, lead_op, lead_at, lead_next}
 use Rattle.machine.specs.Trailing.{checks, trail_op, trail_at, trail_next}
 use Rattle.machine.specs.Fits.{HeardFits, SideFits}
 use Rattle.machine.proofs.Groups.{IsLast, OpFits}

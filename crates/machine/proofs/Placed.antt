@@ -1,6 +1,6 @@
 -- Where an instruction of a version stands: it fits, and another follows it, unless it is the last.
-use Rattle.std.proofs.Common.{◌≡◌, ℕ, zero, suc, ◌+◌, ◌-◌, ◌*◌, ◌<◌, ◌≤◌, ◌^◌, List, [], ◌∷◌, ◌++◌, length, take, Option, Some, None, refl, sym, ap, ◌∙◌, subst, arith, inl, inr, length-append}
-use Rattle.std.specs.Prelude.{All, slice_get, option_and_then}
+use Rattle.std.proofs.Common.{◌≡◌, ℕ, zero, suc, ◌+◌, ◌-◌, ◌*◌, ◌<◌, ◌≤◌, ◌^◌, List, [], ◌∷◌, ◌++◌, length, take, Option, Some, None, refl, sym, ap, ◌∙◌, arith, inl, inr, length-append}
+use Rattle.std.specs.Prelude.{slice_get, option_and_then}
 use Rattle.std.proofs.lemmas.Bool.{cases_lt}
 use Rattle.std.proofs.lemmas.Option.{slice_get_within}
 use Rattle.srmt_base.specs.declared.side.Side.{Side}
@@ -14,7 +14,7 @@ use Rattle.mid_code.specs.declared.version.VersionOp.{VersionOp}
 use Rattle.mid_code.specs.declared.version.VersionLine.{VersionLine}
 use Rattle.mid_code.specs.declared.version.Version.{Version}
 use Rattle.mid_code.specs.Program.{function_at}
-use Rattle.mid_code.specs.Valid.{AreFit, IsFinal, IsValidFunction, IsValid}
+use Rattle.mid_code.specs.Valid.{AreFit, IsFinal, IsValid}
 use Rattle.mid_code.specs.Classes.{sites_of, site_count, protected_functions}
 use Rattle.mid_code.specs.Versions.{with_line, version_code, versions_from, version_at}
 use Rattle.mid_code.proofs.Fetching.{get_front, get_behind, group_of}

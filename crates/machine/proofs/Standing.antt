@@ -1,6 +1,6 @@
 -- What a side that fits knows of the instruction at which it stands, and how the try of its step
 -- went by that instruction.
-use Rattle.std.proofs.Common.{◌≡◌, ℕ, ◌+◌, ◌<◌, ◌≤◌, ◌^◌, Bool, true, false, List, [], ◌∷◌, length, Option, Some, None, refl, sym, ap, ◌∙◌, subst, arith}
+use Rattle.std.proofs.Common.{◌≡◌, ℕ, ◌<◌, ◌≤◌, ◌^◌, true, false, List, [], ◌∷◌, length, Option, Some, None, sym, ap, ◌∙◌, subst, arith}
 use Rattle.std.specs.Prelude.{All, IsTrue, slice_get, slice_index}
 use Rattle.srmt_base.specs.declared.event.Event.{Event}
 use Rattle.srmt_base.specs.declared.side.Side.{Side}
@@ -18,19 +18,17 @@ use Rattle.mid_code.specs.Valid.{IsValid}
 use Rattle.mid_code.specs.Fits.{AreWithin}
 use Rattle.mid_code.proofs.Fitting.{within_fit, found_one}
 use Rattle.mid_code.specs.Machine.{register}
-use Rattle.world.specs.World.{WorldState, Asked, ask}
+use Rattle.world.specs.World.{WorldState, ask}
 use Rattle.word_stream.specs.declared.request.Request.{Request}
-use Rattle.word_stream.specs.declared.request.Request.TheVariants.{Put, Exit}
 use Rattle.machine.specs.declared.thread_end.Stepped.{Stepped}
 use Rattle.machine.specs.declared.thread_end.Stepped.TheVariants.{Went as Made, NotYet, Ended as MadeLast}
-use Rattle.machine.specs.Side.{SideState, Meet, Plain, Got, Closed, Failed, Outcome, Went, Ended, StepGives}
+use Rattle.machine.specs.Side.{SideState, Meet, Plain, Got, Closed, Failed, Went}
 use Rattle.machine.specs.Steps.{side_op, takes, may_send, takes_at, may_send_at, operands}
 use Rattle.machine.specs.Leading.{act_request, acts, lead_op, lead_at, lead_next}
 use Rattle.machine.specs.Trailing.{trail_op, trail_at, trail_next}
 use Rattle.machine.specs.Tried.{Shown, Tries, TriesBy}
 use Rattle.machine.specs.Fits.{HeardFits, SideFits, FitsAfter, LivesAfter}
 use Rattle.machine.proofs.Groups.{CopiedFits, ArgsFit, OpFits}
-use Rattle.machine.proofs.Placed.{Placed}
 use Rattle.machine.proofs.Fitting.{here, op_fits}
 use Rattle.machine.proofs.Keeping.{lead_fits, trail_fits}
 

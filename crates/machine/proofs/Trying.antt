@@ -8,7 +8,6 @@ use Rattle.word_stream.specs.declared.request.Response.TheVariants.{Done}
 use Rattle.word_stream.specs.Exchange.{response_words}
 use Rattle.world.specs.World.{WorldState, Asked, stopped}
 use Rattle.machine.specs.declared.link_call.Taken.TheVariants.{Word}
-use Rattle.machine.specs.declared.link_call.LastCall.{LastCall}
 use Rattle.machine.specs.declared.link_call.LastCall.TheVariants.{Room, Take}
 use Rattle.machine.specs.declared.thread_end.ThreadEnd.TheVariants.{Echo, WriteFault}
 use Rattle.machine.specs.declared.thread_end.Stepped.{Stepped}

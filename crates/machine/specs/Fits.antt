@@ -1,5 +1,5 @@
 -- A side that stands within its version.
-use Rattle.std.specs.Prelude.{ℕ, ◌≡◌, ◌^◌, ◌<◌, List, [], Option, Some, length, All, IsTrue}
+use Rattle.std.specs.Prelude.{ℕ, ◌≡◌, ◌^◌, ◌<◌, List, [], Some, length, All, IsTrue}
 use Rattle.srmt_base.specs.declared.side.Side.{Side}
 use Rattle.mid_code.specs.declared.program.MidProgram.{MidProgram}
 use Rattle.mid_code.specs.declared.program.MidFunction.{MidFunction}

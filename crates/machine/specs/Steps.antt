@@ -7,7 +7,7 @@ use Rattle.mid_code.specs.declared.version.VersionOp.{VersionOp}
 use Rattle.mid_code.specs.declared.version.VersionOp.TheVariants.{Copied, Ask, Await, Act, Check, Ack, End}
 use Rattle.mid_code.specs.declared.version.VersionLine.{VersionLine}
 use Rattle.mid_code.specs.declared.version.Version.{Version}
-use Rattle.mid_code.specs.Machine.{Machine, Does, Goes, Traps, Reaches, Lost, register, passed}
+use Rattle.mid_code.specs.Machine.{Does, Goes, Traps, Reaches, Lost, register, passed}
 use Rattle.mid_code.specs.Versions.{leading_versions, trailing_versions, version_at}
 use Rattle.world.specs.World.{WorldState}
 use Rattle.machine.specs.declared.thread_end.ThreadEnd.TheVariants.{Trap}

@@ -1,5 +1,5 @@
 -- One step of the trailing side.
-use Rattle.std.specs.Prelude.{ℕ, Bool, true, false, List, [], ◌∷◌, Option, Some, None, ◌==◌, ◌%◌, if◌then◌else◌}
+use Rattle.std.specs.Prelude.{ℕ, Option, Some, None, ◌==◌, ◌%◌, if◌then◌else◌}
 use Rattle.srmt_base.specs.declared.side.Side.TheVariants.{Trail}
 use Rattle.srmt_base.specs.declared.word.Kind.TheVariants.{Check as CheckKind}
 use Rattle.srmt_base.specs.Word.{word_of}

@@ -1,4 +1,4 @@
-use Rattle.std.proofs.Common.{◌≡◌, true, take, ap, sym, refl}
+use Rattle.std.proofs.Common.{true, take, refl}
 use Rattle.world.specs.World.{ask}
 use Rattle.machine.proofs.Trying.{had_room, acted, acted_failed}
 use Rattle.machine.proofs.leading.act_on.Goals as goal

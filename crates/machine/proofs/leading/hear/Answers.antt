@@ -1,4 +1,4 @@
-use Rattle.std.proofs.Common.{◌≡◌, ◌∷◌, [], ◌++◌, ◌≤◌, length, ap, sym, ◌∙◌, arith}
+use Rattle.std.proofs.Common.{◌∷◌, [], ◌++◌, ◌≤◌, length, ap, sym, ◌∙◌, arith}
 use Rattle.srmt_base.specs.Word.{word_of}
 use Rattle.srmt_base.specs.declared.word.Kind.TheVariants.{Ack}
 use Rattle.machine.specs.Side.{SideState, Went, Ended}

@@ -1,18 +1,11 @@
-use Rattle.std.proofs.Common.{◌≡◌, ◌<◌, ◌%◌, ◌∙◌, Some, true, [], ◌++◌, inl, inr, refl, ap, sym, subst, arith, append-nil}
+use Rattle.std.proofs.Common.{◌∙◌, true, [], inl, inr, ap, sym}
 use Rattle.std.specs.Option.{option_copied}
 use Rattle.srmt_base.specs.declared.side.Side.TheVariants.{Lead}
 use Rattle.srmt_outside.proofs.Told.{Appends-nothing}
-use Rattle.mid_code.specs.Machine.{act, register}
 use Rattle.mid_code.specs.declared.version.VersionOp.TheVariants.{Copied, Ask, Await, Act, Check, Ack, End}
-use Rattle.word_stream.specs.declared.request.Request.{Request}
-use Rattle.world.specs.World.{WorldState, ask}
 use Rattle.machine.specs.declared.link_call.LastCall.TheVariants.{Nothing}
-use Rattle.machine.specs.declared.thread_end.ThreadEnd.TheVariants.{Exit as ExitEnd}
-use Rattle.machine.specs.declared.thread_end.Stepped.TheVariants.{Ended as MadeLast}
-use Rattle.machine.specs.Side.{Plain, Ended}
-use Rattle.machine.specs.Steps.{performed, operands}
-use Rattle.machine.specs.Leading.{acts}
-use Rattle.machine.specs.Tried.{Shown, TriesBy}
+use Rattle.machine.specs.Steps.{operands}
+use Rattle.machine.specs.Tried.{Shown}
 use Rattle.machine.proofs.Trying.{was_quiet, sends_no_fault, awaits_no_fault}
 use Rattle.machine.proofs.Standing.{found_at, small_place, op_here, heard_here, args_within, source_within, copied_within, lead_tries, lead_fits_after, lead_lives_after, first_operand, first_within, first_there, same_request}
 use Rattle.machine.proofs.leading.lead_step.Goals as goal

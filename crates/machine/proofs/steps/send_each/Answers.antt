@@ -1,4 +1,4 @@
-use Rattle.std.proofs.Common.{◌≡◌, ℕ, ◌+◌, ◌<◌, List, [], ◌∷◌, ◌++◌, length, map, take, get_or, sym, ap, ◌∙◌}
+use Rattle.std.proofs.Common.{◌≡◌, ℕ, ◌+◌, List, [], ◌∷◌, ◌++◌, map, take, get_or, sym, ap, ◌∙◌}
 use Rattle.srmt_base.specs.Word.{word_of}
 use Rattle.mid_code.specs.Machine.{register}
 use Rattle.machine.proofs.Sending.{sent_one, words_more}

@@ -1,4 +1,4 @@
-use Rattle.std.proofs.Common.{◌≡◌, ap, subst, ◌∙◌}
+use Rattle.std.proofs.Common.{ap, subst, ◌∙◌}
 use Rattle.srmt_base.specs.Word.{word_of}
 use Rattle.srmt_base.specs.declared.word.Kind.TheVariants.{Check}
 use Rattle.mid_code.specs.Machine.{register}

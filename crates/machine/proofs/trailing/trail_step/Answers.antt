@@ -1,19 +1,16 @@
-use Rattle.std.proofs.Common.{◌≡◌, ◌<◌, ◌%◌, ◌∙◌, Some, true, [], ◌++◌, inl, inr, refl, ap, sym, subst, arith, append-nil}
+use Rattle.std.proofs.Common.{◌%◌, true, [], inl, inr, ap, sym}
 use Rattle.std.specs.Option.{option_copied}
 use Rattle.srmt_base.specs.declared.side.Side.TheVariants.{Trail}
 use Rattle.mid_code.specs.Machine.{act, register}
 use Rattle.mid_code.specs.declared.version.VersionOp.TheVariants.{Copied, Ask, Await, Act, Check, Ack, End}
-use Rattle.word_stream.specs.declared.request.Request.{Request}
 use Rattle.world.specs.World.{WorldState, ask}
 use Rattle.machine.specs.declared.link_call.LastCall.TheVariants.{Nothing}
 use Rattle.machine.specs.declared.thread_end.ThreadEnd.TheVariants.{Exit as ExitEnd}
 use Rattle.machine.specs.declared.thread_end.Stepped.TheVariants.{Ended as MadeLast}
-use Rattle.machine.specs.Side.{Plain, Ended}
-use Rattle.machine.specs.Steps.{performed, operands}
-use Rattle.machine.specs.Leading.{acts}
-use Rattle.machine.specs.Tried.{Shown, TriesBy}
+use Rattle.machine.specs.Side.{Ended}
+use Rattle.machine.specs.Tried.{Shown}
 use Rattle.machine.proofs.Trying.{was_quiet}
-use Rattle.machine.proofs.Standing.{found_at, small_place, op_here, heard_here, args_within, source_within, copied_within, trail_tries, trail_fits_after}
+use Rattle.machine.proofs.Standing.{found_at, small_place, op_here, args_within, source_within, copied_within, trail_tries, trail_fits_after}
 use Rattle.machine.proofs.trailing.trail_step.Goals as goal
 
 pub perform-stepped-requires-clause-registers : goal.perform-stepped-requires-clause-registers

@@ -1,4 +1,7 @@
 use Rattle.pair_core.proofs.Sounds.{sound_scheduled, first_words, first_events}
+use Rattle.std.proofs.Common.{refl}
+use Rattle.pair_core.proofs.Alternating.{countable}
+use Rattle.pair_core.specs.Duo.{scheduled}
 use Rattle.pair_core.proofs.Faults.{no_fault_scheduled}
 use Rattle.pair_core.proofs.laws.over_every_schedule.Goals as goal
 
@@ -13,3 +16,6 @@ returns-clause-all_events c = λ program input limits events whole words end sit
 
 pub returns-clause-no_fault : goal.returns-clause-no_fault
 returns-clause-no_fault c = λ program input limits entries none. no_fault_scheduled program input limits entries none
+
+pub returns-clause-bounded : goal.returns-clause-bounded
+returns-clause-bounded c = λ program input limits entries sites. countable program input limits (scheduled program input limits entries).duo (scheduled program input limits entries).events sites (entries, refl)
