@@ -125,6 +125,7 @@ run_asks (Ok end) before after name asked = asked
 run_asks (Err OutOfMemory) before after name asked = (1, asked)
 run_asks (Err WriteFault) before after name asked = asked
 run_asks (Err (Alone end)) before after name asked = asked
+run_asks (Err (RanBoth ran)) before after name asked = asked
 run_asks (Err Usage) before after name asked = asked
 run_asks (Err ReadFault) before after name asked = asked
 run_asks (Err TooLong) before after name asked = asked
