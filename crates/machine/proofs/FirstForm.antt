@@ -14,6 +14,7 @@ use Rattle.mid_code.specs.Rules.{is_final, has_outside}
 use Rattle.mid_code.specs.Valid.{IsValid}
 use Rattle.mid_code.specs.Classes.{protected_functions}
 use Rattle.mid_code.specs.Pairs.{IsOfFirstForm, HasSites}
+use Rattle.mid_code.proofs.Fetching.{get_taken}
 use Rattle.mid_code.proofs.Keeping.{KeepsRules, keeps, neither}
 use Rattle.mid_code.proofs.Naming.{whole, function_kept, first_there}
 use Rattle.mid_code.proofs.Values.{found_one, one_within}
@@ -65,18 +66,12 @@ taken_get (suc n) [] k x at = at
 taken_get (suc n) (y ∷ ys) zero x at = at
 taken_get (suc n) (y ∷ ys) (suc k) x at = taken_get n ys k x at
 
-get_taken : {X : Type 0} (n : ℕ) (xs : List X) (k : ℕ) → k < n → slice_get (take n xs) k ≡ slice_get xs k
-get_taken zero xs k within = absurd (omega arith)
-get_taken (suc n) [] k within = refl
-get_taken (suc n) (x ∷ xs) zero within = refl
-get_taken (suc n) (x ∷ xs) (suc k) within = get_taken n xs k (omega arith)
-
--- a protected function is one of the program's, and has the first form
+-- a protected function is one of the program's
 pub protected_found : (program : MidProgram) (before : ℕ) (f : MidFunction) → slice_get (protected_functions program) before ≡ Some f → function_at program (suc before) ≡ Some f
 protected_found program before f found = taken_get program.main_functions program.functions before f found
 
 pub found_protected : (program : MidProgram) (before : ℕ) (f : MidFunction) → function_at program (suc before) ≡ Some f → suc before ≤ program.main_functions → slice_get (protected_functions program) before ≡ Some f
-found_protected program before f found within = get_taken program.main_functions program.functions before (omega arith) ∙ found
+found_protected program before f found within = get_taken program.functions before program.main_functions (omega arith) ∙ found
 
 pub first_function : (program : MidProgram) (before : ℕ) (f : MidFunction) → HasSites program → slice_get (protected_functions program) before ≡ Some f → FirstFunction f
 first_function program before f sites here =
