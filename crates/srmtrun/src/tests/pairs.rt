@@ -1,3 +1,5 @@
+ghost use Rattle.std.specs.Prelude.{◌<◌, length};
+
 use crate::lowering::lower_first_form;
 use crate::pairing::pair_of;
 use crate::reading::read_first_form;
