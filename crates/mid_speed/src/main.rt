@@ -5,12 +5,13 @@
 #![tactic(auto)]
 
 ghost use Rattle.std.specs.Prelude.{◌≡◌, ◌^◌, ◌<◌, [], IfOk};
+ghost use Rattle.mid_code.specs.Valid.{IsValid};
 
 use anyhow::{Result, bail};
 use mid_code::{FunType, Mid, MidFunction, MidLine, MidProgram, RegisterKind, valid};
 use mid_run::MidRun;
 use sqlite_items::Items;
-use srmt_base::{Limits, Op, Ty};
+use srmt_base::{Limits, Op, SourceEnd, Ty};
 use srmt_outside::SureOutlet;
 use std::alloc::{AllocError, Global};
 use std::env;
@@ -111,21 +112,37 @@ const LIMITS: Limits = Limits {
     cells: 0,
 };
 
-fn main(rt: HostRuntime) -> Result<()> {
+/// The end of the program's run, and how many microseconds it took.
+fn timed(rt: &HostRuntime, program: &MidProgram) -> Result<(Option<SourceEnd>, u128)>
+    requires valid { IsValid program.now }
+    requires main_statics { program.now.main_statics ≡ [] }
+    requires binary_statics { program.now.binary_statics ≡ [] }
+{
     let alloc = rt.alloc();
+    let mut run = MidRun::start(alloc, program, Vec::new(alloc), LIMITS)?;
+    let mut outlet = SureOutlet::new();
+    let start = Instant::now(rt)?;
+    let end = run.run(program, &mut outlet).ok();
+    let micros = start.elapsed(rt)?.as_micros();
+    Ok((end, micros))
+}
+
+/// How many instructions a second are run, where so many rounds take some microseconds.
+fn speed(rounds: u64, micros: u128) -> u64
+    requires { rounds < 2 ^ 32 }
+{
+    let instructions = rounds * OF_TWO_ROUNDS / 2;
+    (u128::from(instructions) * 1_000_000 / micros.max(1)) as u64
+}
+
+fn main(rt: HostRuntime) -> Result<()> {
     let rounds = asked(&rt)?;
-    let program = program(alloc, rounds)?;
+    let program = program(rt.alloc(), rounds)?;
     if valid(&program).is_err() {
         bail!("the program is not valid");
     }
-    let mut run = MidRun::start(alloc, &program, Vec::new(alloc), LIMITS)?;
-    let mut outlet = SureOutlet::new();
-    let start = Instant::now(&rt)?;
-    let end = run.run(&program, &mut outlet).ok();
-    let micros = start.elapsed(&rt)?.as_micros().max(1);
-    let instructions = u128::from(rounds) * u128::from(OF_TWO_ROUNDS) / 2;
-    let speed = (instructions * 1_000_000 / micros) as u64;
-    eprintln!(rt; "mid_run: {speed} instructions a second")?;
-    println!(rt; "{end:?}")
-        .map_err(anyhow::Error::from)
+    let (end, micros) = timed(&rt, &program)?;
+    eprintln!(rt; "mid_run: {} instructions a second", speed(rounds, micros))?;
+    println!(rt; "{end:?}")?;
+    Ok(())
 }
