@@ -115,9 +115,9 @@ fn main(rt: HostRuntime) -> Result<()> {
     let alloc = rt.alloc();
     let rounds = asked(&rt)?;
     let program = program(alloc, rounds)?;
-    if valid(&program).is_err() {
+    let Ok(()) = valid(&program) else {
         bail!("the program is not valid");
-    }
+    };
     let mut run = MidRun::start(alloc, &program, Vec::new(alloc), LIMITS)?;
     let mut outlet = SureOutlet::new();
     let start = Instant::now(&rt)?;
@@ -126,6 +126,5 @@ fn main(rt: HostRuntime) -> Result<()> {
     let instructions = u128::from(rounds) * u128::from(OF_TWO_ROUNDS) / 2;
     let speed = (instructions * 1_000_000 / micros) as u64;
     eprintln!(rt; "mid_run: {speed} instructions a second")?;
-    println!(rt; "{end:?}")
-        .map_err(anyhow::Error::from)
+    println!(rt; "{end:?}").map_err(anyhow::Error::from)
 }
