@@ -32,6 +32,12 @@ abbrev pub IsNewest : ℕ → List Opened → Type 0
 IsNewest place [] = ⊥
 IsNewest place (newest ∷ older) = newest.place ≡ place
 
+-- an instruction calls a function
+abbrev pub IsCall : Mid → Type 0
+IsCall (Call target function args) = Unit {0}
+IsCall (CallPtr target callee ty args) = Unit {0}
+IsCall _ = ⊥
+
 -- what an instruction names is there, one case for each
 abbrev pub CanAct : MidProgram → Mid → Machine → Type 0
 CanAct program (Const target value) m = IsThere m target × (value < 2 ^ 44)

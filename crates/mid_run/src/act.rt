@@ -4,7 +4,7 @@ ghost use Rattle.mid_code.specs.Registers.{registers_list};
 ghost use Rattle.mid_code.specs.Program.{function_at};
 ghost use Rattle.mid_code.specs.Machine.{Goes, given, gives, moved_if, counts, part_of_function, calls, calls_value, is_callee, closes, leaves, register, arguments, act};
 ghost use Rattle.mid_run.specs.Kept.{TakesResult};
-ghost use Rattle.mid_run.specs.Acts.{IsThere, CanEnter, IsNewest, CanAct, HasDone};
+ghost use Rattle.mid_run.specs.Acts.{IsThere, CanEnter, IsNewest, IsCall, CanAct, HasDone};
 
 use crate::frames::Frames;
 use mid_code::{Access, Mid, MidLine, MidProgram, Registers};
@@ -113,6 +113,28 @@ pub(crate) fn perform(frames: &mut Frames, program: &MidProgram, line: &MidLine)
             jump(frames, taken, place, at)
         }
         Mid::Turn => turn(frames, program, at),
+        Mid::Call { .. } | Mid::CallPtr { .. } => perform_call(frames, program, line),
+        Mid::Return { source } => {
+            let value = frames.read(source);
+            leave(frames, program, value, at)
+        }
+        Mid::Put { source } => Did::Wants(Access::Puts(frames.read(source))),
+        Mid::Get { target } => Did::Wants(Access::Gets { target }),
+        Mid::Exit { source } => Did::Wants(Access::Exits(frames.read(source))),
+    }
+}
+
+/// Performs a call. It stands apart so that no other instruction clears room for arguments.
+#[inline(never)]
+fn perform_call(frames: &mut Frames, program: &MidProgram, line: &MidLine) -> Did
+    requires place { frames.old.machine.top.place + 1 < 2 ^ 32 }
+    requires few { length program.now.functions < 65536 }
+    requires can { CanAct program.now line.now.mid frames.old.machine }
+    requires call { IsCall line.now.mid }
+    ensures { HasDone (act program.now line.now.mid line.now.line frames.old.machine) line.now.line frames.old frames.new result }
+{
+    let at = line.line;
+    match line.mid {
         Mid::Call {
             target,
             function,
@@ -127,13 +149,7 @@ pub(crate) fn perform(frames: &mut Frames, program: &MidProgram, line: &MidLine)
             let value = frames.read(callee);
             call_value(frames, program, value, ty, target, &args, at)
         }
-        Mid::Return { source } => {
-            let value = frames.read(source);
-            leave(frames, program, value, at)
-        }
-        Mid::Put { source } => Did::Wants(Access::Puts(frames.read(source))),
-        Mid::Get { target } => Did::Wants(Access::Gets { target }),
-        Mid::Exit { source } => Did::Wants(Access::Exits(frames.read(source))),
+        _ => unreachable!(),
     }
 }
 

@@ -149,9 +149,9 @@ fn run(
     requires cells { limits.cells ≤ 1048576 }
 {
     let program = program(alloc, code)?;
-    if valid(&program).is_err() {
+    let Ok(()) = valid(&program) else {
         return Ok(None);
-    }
+    };
     let input = Vec::from_slice(alloc, b"a")?;
     let mut run = MidRun::start(alloc, &program, input, limits)?;
     Ok(run.run(&program, outlet).ok())
