@@ -50,7 +50,12 @@ fn program_parts(alloc: Global, program: &MidProgram) -> Result<ProgramParts, Al
     let mut trailing = Items::new(alloc);
     let mut site = 1;
     for function in functions {
-        let parts = function_parts(alloc, program.main_functions, function.code.as_slice(), site)?;
+        let parts = function_parts(
+            alloc,
+            program.main_functions,
+            function.code.as_slice(),
+            site,
+        )?;
         classes.push(parts.classes)?;
         leading.push(Version {
             code: parts.leading,
