@@ -1,7 +1,8 @@
 mod instructions;
 
 use crate::{
-    FunType, Mid, MidFunction, MidLine, MidProgram, MidRefusal, RegisterKind, Static, valid,
+    FunType, Mid, MidFunction, MidLine, MidProgram, MidRefusal, RegisterKind, Registers, Static,
+    valid,
 };
 use instructions::SINGLE;
 use sqlite_items::Items;
@@ -467,4 +468,21 @@ fn code_keeps_its_rules(rt: HostRuntime) -> Result<(), Fail> {
         assert_eq!(rt; answer(&tried), expected, "{code:?}");
     }
     Ok(())
+}
+
+#[test]
+fn registers_stand_in_order(rt: HostRuntime) {
+    let mut registers = Registers::new();
+    assert!(rt; registers.is_empty());
+    for number in [7, 1023, 7] {
+        if !registers.is_full() {
+            registers.push(number);
+        }
+    }
+    assert_eq!(rt; registers.as_slice(), [7, 1023, 7].as_slice());
+    assert_eq!(rt; registers.len(), 3);
+    assert_eq!(rt; registers.get(1), Some(1023));
+    assert_eq!(rt; registers.get(3), None);
+    let copy = registers;
+    assert_eq!(rt; copy, registers);
 }
