@@ -109,36 +109,27 @@ ends_within program valid (suc more) s fits few =
     ended_then program s (step program s) (exec program more) more (sound_step program s valid fits) (step_nears program s valid fits.machine)
     (λ next fits' less. ends_within program valid more next fits' (omega (arith, few, less)))
 
--- a run that goes on has made fewer steps than were left
+-- a run that goes on has made no more steps than were left, with at most as many events
 abbrev GoesOn : MidProgram → ℕ → ℕ → Run → Type 0
-GoesOn program steps left r = (s : State) (events : List Event) → r ≡ Running s events → steps + left_to_go program s.machine ≤ left
+GoesOn program steps left (Running s events) = (steps + left_to_go program s.machine ≤ left) × (length events ≤ steps)
+GoesOn program steps left (Ended end events) = Unit {0}
+GoesOn program steps left NoWay = Unit {0}
 
-goes_preceded : (program : MidProgram) (before : List Event) (steps left : ℕ) (r : Run) → GoesOn program steps left r → GoesOn program steps left (preceded before r)
-goes_preceded program before steps left (Running t seen) h s events e = let same : t ≡ s = cc in subst (λ x. steps + left_to_go program x.machine ≤ left) same (h t seen refl)
-goes_preceded program before steps left (Ended end seen) h s events e = absurd (cc)
-goes_preceded program before steps left NoWay h s events e = absurd (cc)
-
-goes_further : (program : MidProgram) (steps left more : ℕ) (r : Run) → left < more → GoesOn program steps left r → GoesOn program (suc steps) more r
-goes_further program steps left more r less h s events e = omega (arith, less, h s events e)
+goes_further : (program : MidProgram) (before : List Event) (steps left more : ℕ) (r : Run) → length before ≤ 1 → left < more → GoesOn program steps left r → GoesOn program (suc steps) more (preceded before r)
+goes_further program before steps left more (Running s events) one less h = (omega (arith, less, h.0), omega (arith, one, h.1, length-append before events))
+goes_further program before steps left more (Ended end events) one less h = tt
+goes_further program before steps left more NoWay one less h = tt
 
 goes_then : (program : MidProgram) (s : State) (t : Step) (rest : State → Run) (steps : ℕ) → IsSound program t → StepNears program s t → ((next : State) → Fits program next → GoesOn program steps (left_to_go program next.machine) (rest next)) → GoesOn program (suc steps) (left_to_go program s.machine) (then_run t rest)
 goes_then program s (On next events) rest steps sound near more =
-    goes_further program steps (left_to_go program next.machine) (left_to_go program s.machine) (preceded events (rest next)) near.0
-    (goes_preceded program events steps (left_to_go program next.machine) (rest next) (more next sound))
-goes_then program s (Ends end seen) rest steps sound near more = ended_no program (suc steps) (left_to_go program s.machine) end seen where
-  ended_no : (program : MidProgram) (steps left : ℕ) (end : SourceEnd) (seen : List Event) → GoesOn program steps left (Ended end seen)
-  ended_no program steps left end seen s events e = absurd (cc)
-goes_then program s Stuck rest steps sound near more = absurd sound
+    goes_further program events steps (left_to_go program next.machine) (left_to_go program s.machine) (rest next) near.1 near.0 (more next sound)
+goes_then program s (Ends end seen) rest steps sound near more = tt
+goes_then program s Stuck rest steps sound near more = tt
 
 goes_on : (program : MidProgram) → IsValid program → (steps : ℕ) (s : State) → Fits program s → GoesOn program steps (left_to_go program s.machine) (exec program steps s)
-goes_on program valid zero s fits = here program s where
-  here : (program : MidProgram) (s : State) → GoesOn program zero (left_to_go program s.machine) (Running s [])
-  here program s t events e = let same : s ≡ t = cc in subst (λ x. zero + left_to_go program x.machine ≤ left_to_go program s.machine) same (omega arith)
+goes_on program valid zero s fits = (omega arith, omega arith)
 goes_on program valid (suc more) s fits =
     goes_then program s (step program s) (exec program more) more (sound_step program s valid fits) (step_nears program s valid fits.machine) (λ next fits'. goes_on program valid more next fits')
-
-went_on : (program : MidProgram) (steps left : ℕ) (r : Run) (s : State) (events : List Event) → GoesOn program steps left r → r ≡ Running s events → steps ≤ left
-went_on program steps left r s events h e = omega (arith, h s events e)
 
 -- at the start fewer than 2^62 - 1 steps are left
 left_at_start : (program : MidProgram) (limits : Limits) → IsValid program → FitLimits program limits → left_to_go program (started_machine program limits) + 1 < 2 ^ 62
@@ -159,5 +150,7 @@ short program input limits can =
       events = ended.events;
       ended = ended.ended;
       few_events = omega (arith, ended.few, few);
-      going = λ made t so_far e. omega (arith, went_on program made (left_to_go program s.machine) (exec program made s) t so_far (goes_on program can.valid made s fits) e);
+      going = λ made t so_far e.
+          let on : GoesOn program made (left_to_go program s.machine) (Running t so_far) = subst (GoesOn program made (left_to_go program s.machine)) e (goes_on program can.valid made s fits) in
+          (omega (arith, on.0), omega (arith, on.1, on.0, few));
     }

@@ -192,3 +192,31 @@ null_called = refl
 main_called : exec (alone false (by_value 1)) 100 (started (alone false (by_value 1)) [] (limits 9 9)) ≡ Ended (TrapEnd NotAFunction 2) []
 unfolding alone by_value line limits does none
 main_called = refl
+
+-- a binary function has budgets and numbers of its own: `int f(void) { volatile int x; return x; } | int main(void) { return f(); }`
+apart : MidProgram
+apart = record {
+  types = record { params = []; result = Number } ∷ [];
+  main_functions = 1;
+  main = 1;
+  main_statics = [];
+  binary_statics = [];
+  functions =
+      record { ty = 0; kinds = Number ∷ []; line = 1; code = line 1 (Call 0 2 none) ∷ line 1 (Exit 0) ∷ [] }
+      ∷ record {
+        ty = 0;
+        kinds = Address ∷ Number ∷ [];
+        line = 2000001;
+        code = line 2000001 (Open 0 1) ∷ line 2000001 (VLoad 1 0) ∷ line 2000001 (Close 0) ∷ line 2000001 (Return 1) ∷ [];
+      }
+      ∷ [];
+}
+
+each_part : exec apart 100 (started apart [] (limits 1 1)) ≡ Ended (ExitEnd 0) (PortRead 134217728 0 ∷ ExitEvent 0 ∷ [])
+unfolding apart line limits does none
+each_part = refl
+
+-- and its traps have lines of its file
+binary_line : exec apart 100 (started apart [] (few_cells 0)) ≡ Ended (TrapEnd StoreTrap 2000001) []
+unfolding apart line few_cells does none
+binary_line = refl

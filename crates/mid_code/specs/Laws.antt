@@ -30,5 +30,5 @@ pub record IsShort (program : MidProgram) (input : List ℕ) (limits : Limits) :
   pub events : List Event
   pub ended : exec program steps (started program input limits) ≡ Ended end events
   pub few_events : length events < 2 ^ 62
-  -- as long as it goes on, it has made no more steps
-  pub going : (made : ℕ) (s : State) (so_far : List Event) → exec program made (started program input limits) ≡ Running s so_far → made < steps
+  -- as long as it goes on, it has made fewer steps, and fewer than 2^62 events
+  pub going : (made : ℕ) (s : State) (so_far : List Event) → exec program made (started program input limits) ≡ Running s so_far → (made < steps) × (length so_far < 2 ^ 62)
