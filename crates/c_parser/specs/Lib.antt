@@ -1,0 +1,3 @@
+pub mod Codes
+pub mod Nodes
+pub mod Reading
