@@ -1,5 +1,5 @@
 -- The kinds of tokens by number, and the tables of operators and words (C11 6.4.1, 6.4.6, 6.5, 6.7).
-use Rattle.std.specs.Prelude.{ℕ, zero, suc, ◌+◌, Bool, true, false, ◌||◌, if◌then◌else◌, ◌==◌, List, [], ◌∷◌, Option, Some, None}
+use Rattle.std.specs.Prelude.{ℕ, zero, suc, ◌+◌, Bool, true, false, ◌||◌, if◌then◌else◌, ◌==◌, List, [], ◌∷◌, Option, Some, None, option_map}
 use Rattle.srmt_base.specs.declared.op.Op.{Op}
 use Rattle.srmt_base.specs.declared.op.Op.TheVariants as o
 use Rattle.c_lexer.specs.declared.token.Token.{Token}
@@ -178,6 +178,16 @@ specifier_words =
 -- the qualifiers of a pointer, and whether each is `const` (C11 6.7.3)
 abbrev pub qualifiers : Table Bool
 qualifiers = (keyword 4, true) ∷ (keyword 32, false) ∷ []
+
+-- ---- tokens that mean something
+
+-- a token of a kind
+abbrev pub of_kind : ℕ → Token → Option Token
+of_kind k t = if code t == k then Some t else None
+
+-- the line of a token of a table, and its meaning
+abbrev pub of_table : {A : Type 0} → Table A → Token → Option (ℕ × A)
+of_table table t = option_map (λ a. (t.line, a)) (meaning table (code t))
 
 -- ---- what a part begins with
 

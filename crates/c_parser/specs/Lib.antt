@@ -1,3 +1,5 @@
 pub mod Codes
 pub mod Nodes
+pub mod Spelling
+pub mod Grammar
 pub mod Reading

@@ -2,7 +2,7 @@
 --
 -- A reader answers what it read and the tokens that are left, or how many tokens are left at the first that
 -- does not belong. The functions of the parser are these readers.
-use Rattle.std.specs.Prelude.{ℕ, zero, suc, Bool, true, false, not, ◌&&◌, if◌then◌else◌, ◌==◌, List, [], ◌∷◌, ◌++◌, length, Option, Some, None, option_map, Result, Ok, Err}
+use Rattle.std.specs.Prelude.{ℕ, zero, suc, Bool, true, false, not, ◌&&◌, if◌then◌else◌, List, [], ◌∷◌, ◌++◌, length, Option, Some, None, option_map, Result, Ok, Err}
 use Rattle.c_lexer.specs.declared.token.Token.{Token}
 use Rattle.c_tree.specs.declared.operator.BinaryOp.{BinaryOp}
 use Rattle.c_tree.specs.declared.operator.PrefixOp.{PrefixOp}
@@ -20,7 +20,8 @@ use Rattle.c_parser.specs.declared.start.Start.{Start}
 use Rattle.c_parser.specs.declared.start.Start.TheVariants as at
 use Rattle.c_parser.specs.declared.start.Naming.{Naming}
 use Rattle.c_parser.specs.declared.start.Naming.TheVariants as n
-use Rattle.c_parser.specs.Codes.{Table, meaning, kinds, one_of, code, name, text, open_bracket, close_bracket, open_paren, close_paren, star, question, colon, comma, sizeof_word, binary_operators, levels, assignment_operators, step_operators, unary_operators, postfix_operators, specifier_words, qualifiers, specifier_starts, postfix_starts, suffix_starts, declarator_starts, abstract_starts, parameter_starts}
+use Rattle.c_parser.specs.Codes.{of_kind, of_table, Table, kinds, one_of, code, name, text, open_bracket, close_bracket, open_paren, close_paren, star, question, colon, comma, sizeof_word, binary_operators, levels, assignment_operators, step_operators, unary_operators, postfix_operators, specifier_words, qualifiers, specifier_starts, postfix_starts, suffix_starts, declarator_starts, abstract_starts, parameter_starts}
+use Rattle.c_parser.specs.Spelling.{push, line_at}
 use Rattle.c_parser.specs.Nodes.{Bytes, text_of, at_line, constant_node, name_node, text_node, parenthesized_node, index_node, call_node, postfix_node, prefix_node, sizeof_expr_node, sizeof_type_node, cast_node, binary_node, conditional_node, assign_node, comma_node, is_unary, specifier_node, pointer_node, qualified, type_node, parameter_node, direct_name, declarator_node}
 
 -- ---- readers
@@ -69,16 +70,10 @@ token f [] = Err 0
 token f (t ∷ rest) = taken t rest (f t)
 
 -- a token of a kind
-abbrev pub of_kind : ℕ → Token → Option Token
-of_kind k t = if code t == k then Some t else None
-
 abbrev pub one : ℕ → Reader Token
 one k = token (of_kind k)
 
 -- the line of a token of a table, and its meaning
-abbrev pub of_table : {A : Type 0} → Table A → Token → Option (ℕ × A)
-of_table table t = option_map (λ a. (t.line, a)) (meaning table (code t))
-
 abbrev pub sign : {A : Type 0} → Table A → Reader (ℕ × A)
 sign table = token (of_table table)
 
@@ -94,9 +89,6 @@ grown_from ks grow r (suc turns) a = choose (begins ks) (r >>= (λ b. grown_from
 
 abbrev pub grown : {A B : Type 0} → List ℕ → (A → B → A) → Reader B → A → Reader A
 grown ks grow r a = λ w. grown_from ks grow r (length w) a w
-
-abbrev pub push : {A : Type 0} → List A → A → List A
-push xs x = xs ++ x ∷ []
 
 -- what one reads, behind a comma
 abbrev pub behind_comma : {A : Type 0} → Reader A → Reader A
@@ -137,10 +129,9 @@ begins_type w = begins (open_paren ∷ []) w && then_begins specifier_starts w
 unfoldable pub encloses : List Token → Bool
 encloses w = begins (open_paren ∷ []) w && not (then_begins parameter_starts w)
 
--- the line of the first token
-abbrev pub line_here : Reader ℕ
-line_here [] = Ok (0, [])
-line_here (t ∷ rest) = Ok (t.line, t ∷ rest)
+-- with the line of the first token
+abbrev pub located : {A : Type 0} → (ℕ → Reader A) → Reader A
+located r = λ w. r (line_at w) w
 
 -- ---- lines over readers of expressions and declarators
 
@@ -218,11 +209,10 @@ module _ (src : Bytes) (expr : Start → Reader Expr) (declarator : Naming → R
   core_behind naming (p ∷ ps) = choose (λ w. may_end naming && not (begins (core_starts naming) w)) (pure (d.Unnamed, [])) (core naming)
 
   unfoldable pub declarator_line : Naming → Reader Declarator
-  declarator_line naming = do
-    line ← line_here
+  declarator_line naming = located (λ line. do
     ps ← pointers
     found ← core_behind naming ps
-    pure (declarator_node line ps found.0 found.1)
+    pure (declarator_node line ps found.0 found.1))
 
   unfoldable pub type_name : Reader TypeName
   type_name = do
