@@ -3,3 +3,4 @@ pub mod Nodes
 pub mod Spelling
 pub mod Grammar
 pub mod Reading
+pub mod Outcome

@@ -2,6 +2,18 @@
 //! stop being one.
 #![tactic(auto)]
 
+mod codes;
+mod declarator;
+mod expression;
+mod fault;
+mod grammar;
+mod hub;
+mod leaf;
 mod start;
+#[cfg(test)]
+mod tests;
+mod tokens;
 
+pub use fault::Fault;
+pub use hub::{declarator_at, expr_at};
 pub use start::{Naming, Start};
