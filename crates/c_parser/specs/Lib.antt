@@ -4,5 +4,8 @@ pub mod StatementNodes
 pub mod Spelling
 pub mod Grammar
 pub mod Units
+pub mod Nesting
+pub mod Refusals
 pub mod Reading
 pub mod ReadingUnits
+pub mod Outcome

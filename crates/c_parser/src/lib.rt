@@ -2,6 +2,20 @@
 //! stop being one.
 #![tactic(auto)]
 
+mod codes;
+mod declarator;
+mod expression;
+mod fault;
+mod grammar;
+mod hub;
+mod leaf;
+mod refusal;
 mod start;
+#[cfg(test)]
+mod tests;
+mod tokens;
 
+pub use fault::Fault;
+pub use hub::{declarator_at, expr_at};
+pub use refusal::ParseRefusal;
 pub use start::{Naming, Start};
