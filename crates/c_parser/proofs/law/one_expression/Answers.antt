@@ -1,0 +1,5 @@
+use Rattle.c_parser.proofs.Sound
+use Rattle.c_parser.proofs.law.one_expression.Goals as goal
+
+pub returns : goal.returns
+returns c = ?
