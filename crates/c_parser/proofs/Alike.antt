@@ -47,6 +47,9 @@ err_or_this d (Err k) = k
 pub ok_same : {X : Type 0} (x y : X) (e : Path (Result X ℕ) (Ok x) (Ok y)) → x ≡ y
 ok_same x y e = ap (ok_or_this x) e
 
+pub ok_is_no_err : {X : Type 0} (x : X) (k : ℕ) (e : Path (Result X ℕ) (Ok x) (Err k)) → ⊥
+ok_is_no_err x k e = cc
+
 pub err_same : {X : Type 0} (j k : ℕ) (e : Path (Result X ℕ) (Err j) (Err k)) → j ≡ k
 err_same {X = X} j k e = ap (err_or_this {X = X} j) e
 

@@ -37,17 +37,17 @@ Gap S n m = (a : _) (w : List Token) → S a w → n ≤ m + length w
 
 -- ---- one behind the other
 
+pub sequence_same : {A B : Type 0} (R : Reader A) (f : A → Reader B) (a : A) (f1 f2 mid rest other : List Token) (y : Result (B × List Token) ℕ)
+    → mid ≡ f2 ++ rest → ((o : List Token) → Alike mid o → R (f1 ++ o) ≡ Ok (a, o)) → Alike rest other → f a (f2 ++ other) ≡ y
+    → and_then (R ((f1 ++ f2) ++ other)) f ≡ y
+sequence_same R f a f1 f2 mid rest other y e same alike last =
+    let near : Alike mid (f2 ++ other) = (let P : List Token → Type 0 = λ v. Alike v (f2 ++ other) in subst P (sym e) (alike_append f2 rest other alike)) in
+    ap (λ v. and_then (R v) f) (append_assoc f1 f2 other) ∙ (ap (λ r. and_then r f) (same (f2 ++ other) near) ∙ last)
+
+pub sequence_parts : (w f1 f2 mid rest : List Token) → w ≡ f1 ++ mid → mid ≡ f2 ++ rest → w ≡ (f1 ++ f2) ++ rest
+sequence_parts w f1 f2 mid rest e d = e ∙ (ap (λ v. f1 ++ v) d ∙ sym (append_assoc f1 f2 rest))
+
 module _ {A B : Type 0} (n m : ℕ) (S : Spelling A) (R : Reader A) (T : A → Spelling B) (f : A → Reader B) (h : Reads n S R) (g : (a : A) → Reads m (T a) (f a)) (gap : Gap S n m) where
-  sequence_same : (a : A) (f1 f2 mid rest other : List Token) (y : Result (B × List Token) ℕ)
-      → mid ≡ f2 ++ rest → ((o : List Token) → Alike mid o → R (f1 ++ o) ≡ Ok (a, o)) → Alike rest other → f a (f2 ++ other) ≡ y
-      → and_then (R ((f1 ++ f2) ++ other)) f ≡ y
-  sequence_same a f1 f2 mid rest other y e same alike last =
-      let near : Alike mid (f2 ++ other) = (let P : List Token → Type 0 = λ v. Alike v (f2 ++ other) in subst P (sym e) (alike_append f2 rest other alike)) in
-      ap (λ v. and_then (R v) f) (append_assoc f1 f2 other) ∙ (ap (λ r. and_then r f) (same (f2 ++ other) near) ∙ last)
-
-  sequence_parts : (w f1 f2 mid rest : List Token) → w ≡ f1 ++ mid → mid ≡ f2 ++ rest → w ≡ (f1 ++ f2) ++ rest
-  sequence_parts w f1 f2 mid rest e d = e ∙ (ap (λ v. f1 ++ v) d ∙ sym (append_assoc f1 f2 rest))
-
   sequence_found : (w : List Token) (x : B) (rest : List Token) → and_then (R w) f ≡ Ok (x, rest) → Found (Sequence S T) (λ v. and_then (R v) f) w x rest
   sequence_found w x rest e =
       let p = and_then_ok (R w) f (x, rest) e in
@@ -59,7 +59,7 @@ module _ {A B : Type 0} (n m : ℕ) (S : Spelling A) (R : Reader A) (T : A → S
         front = one.front ++ two.front;
         parts = sequence_parts w one.front two.front mid rest one.parts two.parts;
         by = record { of = a; front = one.front; back = two.front; parts = refl; first = one.by; second = two.by };
-        same = λ other alike. sequence_same a one.front two.front mid rest other (Ok (x, other)) two.parts one.same alike (two.same other alike);
+        same = λ other alike. sequence_same R f a one.front two.front mid rest other (Ok (x, other)) two.parts one.same alike (two.same other alike);
       }
 
   sequence_fault : (w : List Token) (left : ℕ) → length w ≤ n → and_then (R w) f ≡ Err left → Fault (Sequence S T) (λ v. and_then (R v) f) w left
@@ -93,7 +93,7 @@ module _ {A B : Type 0} (n m : ℕ) (S : Spelling A) (R : Reader A) (T : A → S
           viable = record { of = a; front = one.front; back = two.front ++ two.more; parts = append_assoc one.front two.front two.more; first = one.by; second = two.viable };
           same = λ t r other same.
             (let near : Alike two.rest (t ∷ other) = (let P : List Token → Type 0 = λ v. Alike v (t ∷ other) in subst P (sym same) refl) in
-            sequence_same a one.front two.front mid two.rest (t ∷ other) (Err (length (t ∷ other))) two.parts one.same near (two.same t r other same));
+            sequence_same R f a one.front two.front mid two.rest (t ∷ other) (Err (length (t ∷ other))) two.parts one.same near (two.same t r other same));
         }) ]
 
   pub reads_sequence : Reads n (Sequence S T) (λ w. and_then (R w) f)
@@ -170,6 +170,12 @@ gap_same n S a w h = omega arith
 
 -- ---- choices
 
+-- the test goes the same way, whatever follows the refused token
+pub test_front : (test : List Token → Bool) → Heads test → (b : Bool) (w front rest : List Token) (t : Token) (r other : List Token) → test w ≡ b → w ≡ front ++ rest → rest ≡ t ∷ r → test (front ++ t ∷ other) ≡ b
+test_front test heads b w front rest t r other e parts d =
+    let near : Alike rest (t ∷ other) = (let P : List Token → Type 0 = λ v. Alike v (t ∷ other) in subst P (sym d) refl) in
+    sym (heads_front test heads front rest (t ∷ other) near) ∙ (ap test (sym parts) ∙ e)
+
 module _ {A : Type 0} (n : ℕ) (test : List Token → Bool) (S T : Spelling A) (R Q : Reader A) (s : Reads n S R) (t : Reads n T Q) (heads : Heads test) where
   chosen : (b : Bool) (w : List Token) → test w ≡ b → choose test R Q w ≡ (if b then R else Q) w
   chosen b w e = ap (λ v. (if v then R else Q) w) e
@@ -182,18 +188,13 @@ module _ {A : Type 0} (n : ℕ) (test : List Token → Bool) (S T : Spelling A) 
       let one = t.found w x rest h in
       record { front = one.front; parts = one.parts; by = inr one.by; same = λ other alike. chosen false (one.front ++ other) (sym (heads_front test heads one.front rest other alike) ∙ (ap test (sym one.parts) ∙ e)) ∙ one.same other alike }
 
-  test_front : (b : Bool) (w front rest : List Token) (t : Token) (r other : List Token) → test w ≡ b → w ≡ front ++ rest → rest ≡ t ∷ r → test (front ++ t ∷ other) ≡ b
-  test_front b w front rest t r other e parts d =
-      let near : Alike rest (t ∷ other) = (let P : List Token → Type 0 = λ v. Alike v (t ∷ other) in subst P (sym d) refl) in
-      sym (heads_front test heads front rest (t ∷ other) near) ∙ (ap test (sym parts) ∙ e)
-
   choose_fault : (b : Bool) (w : List Token) (left : ℕ) → length w ≤ n → test w ≡ b → (if b then R else Q) w ≡ Err left → Fault (S or T) (choose test R Q) w left
   choose_fault true w left few e h =
       let one = s.fault w left few h in
-      record { front = one.front; rest = one.rest; parts = one.parts; at = one.at; more = one.more; whole = one.whole; viable = inl one.viable; same = λ t r other d. chosen true (one.front ++ t ∷ other) (test_front true w one.front one.rest t r other e one.parts d) ∙ one.same t r other d }
+      record { front = one.front; rest = one.rest; parts = one.parts; at = one.at; more = one.more; whole = one.whole; viable = inl one.viable; same = λ t r other d. chosen true (one.front ++ t ∷ other) (test_front test heads true w one.front one.rest t r other e one.parts d) ∙ one.same t r other d }
   choose_fault false w left few e h =
       let one = t.fault w left few h in
-      record { front = one.front; rest = one.rest; parts = one.parts; at = one.at; more = one.more; whole = one.whole; viable = inr one.viable; same = λ t r other d. chosen false (one.front ++ t ∷ other) (test_front false w one.front one.rest t r other e one.parts d) ∙ one.same t r other d }
+      record { front = one.front; rest = one.rest; parts = one.parts; at = one.at; more = one.more; whole = one.whole; viable = inr one.viable; same = λ t r other d. chosen false (one.front ++ t ∷ other) (test_front test heads false w one.front one.rest t r other e one.parts d) ∙ one.same t r other d }
 
   pub reads_choose : Reads n (S or T) (choose test R Q)
   reads_choose = record {
@@ -203,3 +204,23 @@ module _ {A : Type 0} (n : ℕ) (test : List Token → Bool) (S T : Spelling A) 
       word = s.word;
       sample = inl s.sample;
     }
+
+-- ---- changes
+
+pub reads_wider : {A : Type 0} (n : ℕ) (S S' : Spelling A) (R : Reader A) → ((x : A) (w : List Token) → S x w → S' x w) → Reads n S R → Reads n S' R
+reads_wider n S S' R into h = record {
+    found = λ w x rest e. (let one = h.found w x rest e in record { front = one.front; parts = one.parts; by = into x one.front one.by; same = one.same });
+    fault = λ w left few e. (let one = h.fault w left few e in record { front = one.front; rest = one.rest; parts = one.parts; at = one.at; more = one.more; whole = one.whole; viable = into one.whole (one.front ++ one.more) one.viable; same = one.same });
+    whole = h.whole;
+    word = h.word;
+    sample = into h.whole h.word h.sample;
+  }
+
+pub reads_equal : {A : Type 0} (n : ℕ) (S : Spelling A) (R R' : Reader A) → ((w : List Token) → R' w ≡ R w) → Reads n S R → Reads n S R'
+reads_equal n S R R' into h = record {
+    found = λ w x rest e. (let one = h.found w x rest (sym (into w) ∙ e) in record { front = one.front; parts = one.parts; by = one.by; same = λ other alike. into (one.front ++ other) ∙ one.same other alike });
+    fault = λ w left few e. (let one = h.fault w left few (sym (into w) ∙ e) in record { front = one.front; rest = one.rest; parts = one.parts; at = one.at; more = one.more; whole = one.whole; viable = one.viable; same = λ t r other d. into (one.front ++ t ∷ other) ∙ one.same t r other d });
+    whole = h.whole;
+    word = h.word;
+    sample = h.sample;
+  }

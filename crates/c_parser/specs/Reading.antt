@@ -2,7 +2,7 @@
 --
 -- A reader answers what it read and the tokens that are left, or how many tokens are left at the first that
 -- does not belong. The functions of the parser are these readers.
-use Rattle.std.specs.Prelude.{ℕ, zero, suc, Bool, true, false, not, ◌&&◌, if◌then◌else◌, List, [], ◌∷◌, ◌++◌, length, Option, Some, None, option_map, Result, Ok, Err}
+use Rattle.std.specs.Prelude.{ℕ, zero, suc, Bool, true, false, not, ◌&&◌, if◌then◌else◌, ◌==◌, List, [], ◌∷◌, ◌++◌, length, Option, Some, None, option_map, Result, Ok, Err}
 use Rattle.c_lexer.specs.declared.token.Token.{Token}
 use Rattle.c_tree.specs.declared.operator.BinaryOp.{BinaryOp}
 use Rattle.c_tree.specs.declared.operator.PrefixOp.{PrefixOp}
@@ -68,6 +68,11 @@ taken t rest None = Err (length (t ∷ rest))
 unfoldable pub token : {A : Type 0} → (Token → Option A) → Reader A
 token f [] = Err 0
 token f (t ∷ rest) = taken t rest (f t)
+
+-- there is a token, of another kind
+unfoldable pub until : ℕ → List Token → Bool
+until k [] = false
+until k (t ∷ rest) = not (code t == k)
 
 -- a token of a kind
 abbrev pub one : ℕ → Reader Token

@@ -1,5 +1,5 @@
 -- Reading a declaration, a statement or a unit from the front of a list of tokens.
-use Rattle.std.specs.Prelude.{ℕ, zero, suc, not, List, [], ◌∷◌, length, Option, Some, None, Result, Ok, Err}
+use Rattle.std.specs.Prelude.{ℕ, zero, suc, List, [], ◌∷◌, length, Option, Some, None, Result, Ok, Err}
 use Rattle.c_lexer.specs.declared.token.Token.{Token}
 use Rattle.c_tree.specs.declared.specifier.Specifier.{Specifier}
 use Rattle.c_tree.specs.declared.expression.Expr.{Expr}
@@ -23,7 +23,7 @@ use Rattle.c_parser.specs.declared.start.Naming.{Naming}
 use Rattle.c_parser.specs.declared.start.Naming.TheVariants as n
 use Rattle.c_parser.specs.Codes.{open_brace, close_brace, open_paren, close_paren, semicolon, equals, comma, break_word, continue_word, do_word, else_word, for_word, if_word, return_word, while_word, specifier_starts}
 use Rattle.c_parser.specs.Spelling.{push}
-use Rattle.c_parser.specs.Reading.{Reader, ◌>>=◌, ◌>>◌, ◌<$>◌, pure, stop, one, begins, choose, grown, behind_comma, listed, in_parens, specifiers, expr_at, declarator_at}
+use Rattle.c_parser.specs.Reading.{Reader, ◌>>=◌, ◌>>◌, ◌<$>◌, pure, stop, one, begins, until, choose, grown, behind_comma, listed, in_parens, specifiers, expr_at, declarator_at}
 use Rattle.c_parser.specs.Nodes.{Bytes}
 use Rattle.c_parser.specs.StatementNodes.{item_node, declaration_node, block_node, block_stmt, empty_stmt, expr_stmt, if_stmt, while_stmt, do_stmt, for_stmt, continue_stmt, break_stmt, return_stmt, function_node, unit_node}
 
@@ -93,7 +93,7 @@ module _ (expr : Start → Reader Expr) (declarator : Naming → Reader Declarat
 
       -- any number, up to a `}`
       unfoldable pub block_items : Reader (List BlockItem)
-      block_items = grown (λ w. not (begins (close_brace ∷ []) w)) push block_item []
+      block_items = grown (until close_brace) push block_item []
 
       unfoldable pub block : Reader Block
       block = do

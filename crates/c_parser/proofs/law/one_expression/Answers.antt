@@ -1,3 +1,4 @@
+use Rattle.c_parser.proofs.Repeat
 use Rattle.c_parser.proofs.Sound
 use Rattle.c_parser.proofs.law.one_expression.Goals as goal
 
