@@ -64,3 +64,6 @@ head_or_this d (t ∷ r) = t
 
 pub head_same : {t u : Token} {r s : List Token} → t ∷ r ≡ u ∷ s → t ≡ u
 head_same {t = t} e = ap (head_or_this t) e
+
+pub false_is_not_true : false ≡ true → ⊥
+false_is_not_true e = cc

@@ -1,3 +1,5 @@
 pub mod Alike
 pub mod Sound
 pub mod Repeat
+pub mod Peek
+pub mod Starts

@@ -1,3 +1,5 @@
+use Rattle.c_parser.proofs.Peek
+use Rattle.c_parser.proofs.Starts
 use Rattle.c_parser.proofs.Repeat
 use Rattle.c_parser.proofs.Sound
 use Rattle.c_parser.proofs.law.one_expression.Goals as goal
