@@ -3,3 +3,5 @@ pub mod Sound
 pub mod Repeat
 pub mod Peek
 pub mod Starts
+pub mod Again
+pub mod Short

@@ -1,3 +1,5 @@
+use Rattle.c_parser.proofs.Short
+use Rattle.c_parser.proofs.Again
 use Rattle.c_parser.proofs.Peek
 use Rattle.c_parser.proofs.Starts
 use Rattle.c_parser.proofs.Repeat
