@@ -5,3 +5,5 @@ pub mod Peek
 pub mod Starts
 pub mod Again
 pub mod Short
+pub mod Words
+pub mod ExprStarts

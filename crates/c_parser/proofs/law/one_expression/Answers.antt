@@ -1,3 +1,4 @@
+use Rattle.c_parser.proofs.ExprStarts
 use Rattle.c_parser.proofs.Short
 use Rattle.c_parser.proofs.Again
 use Rattle.c_parser.proofs.Peek
