@@ -1,5 +1,5 @@
 -- Lists of tokens that begin alike.
-use Rattle.std.proofs.Common.{◌≡◌, ℕ, ◌+◌, ◌≤◌, ◌<◌, Bool, true, false, List, [], ◌∷◌, ◌++◌, length, refl, ap, sym, ◌∙◌, subst, Result, Ok, Err, ◌⊎◌, inl, inr, append_assoc, length-append, arith}
+use Rattle.std.proofs.Common.{◌≡◌, ℕ, ◌+◌, ◌≤◌, ◌<◌, Bool, true, false, List, [], ◌∷◌, ◌++◌, length, refl, ap, sym, ◌∙◌, subst, Option, Some, None, Result, Ok, Err, ◌⊎◌, inl, inr, append_assoc, length-append, arith}
 use Rattle.c_lexer.specs.declared.token.Token.{Token}
 use Rattle.c_parser.specs.Codes.{code, one_of}
 use Rattle.c_parser.specs.Reading.{Reader, begins, and_then}
@@ -67,3 +67,10 @@ head_same {t = t} e = ap (head_or_this t) e
 
 pub false_is_not_true : false ≡ true → ⊥
 false_is_not_true e = cc
+
+abbrev some_or_this : {X : Type 0} → X → Option X → X
+some_or_this d None = d
+some_or_this d (Some x) = x
+
+pub some_same : {X : Type 0} {x y : X} (e : Path (Option X) (Some x) (Some y)) → x ≡ y
+some_same {x = x} e = ap (some_or_this x) e

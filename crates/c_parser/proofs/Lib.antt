@@ -7,3 +7,5 @@ pub mod Again
 pub mod Short
 pub mod Words
 pub mod ExprStarts
+pub mod Unary
+pub mod ExprFound

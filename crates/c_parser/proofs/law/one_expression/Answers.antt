@@ -1,3 +1,5 @@
+use Rattle.c_parser.proofs.ExprFound
+use Rattle.c_parser.proofs.Unary
 use Rattle.c_parser.proofs.ExprStarts
 use Rattle.c_parser.proofs.Short
 use Rattle.c_parser.proofs.Again
