@@ -8,4 +8,5 @@ pub mod Short
 pub mod Words
 pub mod ExprStarts
 pub mod Unary
+pub mod Past
 pub mod ExprFound

@@ -27,7 +27,7 @@ abbrev pub apart : List ℕ → List ℕ → Bool
 apart [] ls = true
 apart (k ∷ ks) ls = not (one_of ls k) && apart ks ls
 
-and_both : (a b : Bool) → (a && b) ≡ true → (a ≡ true) × (b ≡ true)
+pub and_both : (a b : Bool) → (a && b) ≡ true → (a ≡ true) × (b ≡ true)
 and_both true b e = (refl, e)
 and_both false b e = absurd (false_is_not_true e)
 
@@ -35,7 +35,7 @@ not_true : (a : Bool) → not a ≡ true → a ≡ false
 not_true true e = absurd (false_is_not_true e)
 not_true false e = refl
 
-or_either : (a b : Bool) → (a || b) ≡ true → (a ≡ true) ⊎ (b ≡ true)
+pub or_either : (a b : Bool) → (a || b) ≡ true → (a ≡ true) ⊎ (b ≡ true)
 or_either true b e = inl refl
 or_either false b e = inr e
 
