@@ -5,6 +5,7 @@ use Rattle.c_lexer.specs.declared.token.Token.{Token}
 use Rattle.c_lexer.specs.declared.token.TokenKind.{TokenKind}
 use Rattle.c_lexer.specs.declared.token.TokenKind.TheVariants.{Keyword, Name, Number, Character, Text, Punct}
 use Rattle.c_tree.specs.declared.operator.PrefixOp.{PrefixOp}
+use Rattle.c_tree.specs.declared.operator.BinaryOp.{BinaryOp}
 use Rattle.c_tree.specs.declared.expression.Expr.{Expr}
 use Rattle.c_tree.specs.declared.expression.Declarator.{Declarator}
 use Rattle.c_tree.specs.declared.expression.Direct.{Direct}
@@ -20,7 +21,7 @@ use Rattle.c_parser.specs.Codes.{Table, code, code_of, one_of, kinds, name, numb
 use Rattle.c_parser.specs.Spelling.{Spelling, Means, One, Sign, Is, Sequence, Many, Grown, Further, Some_of, Listed, Maybe, In_parens, Located, ◌or◌, line_at}
 use Rattle.c_parser.specs.Nodes.{Bytes, constant_node, at_line}
 use Rattle.c_parser.specs.Grammar.{IsSpecifiers, IsPointer, IsPointers, IsArray, IsParameter, IsFunction, IsSuffix, IsNamed, IsNested, IsBare, IsCore, IsPointerAlone, IsDeclaratorLine, IsTypeName, IsName, IsConstant, IsTexts, IsParenthesized, IsPrimary, IsIndex, IsCall, IsStep, IsPostfix, IsSizeof, IsPrefix, IsUnary, IsTyped, IsCast, IsOperation, IsLevel, IsConditional, IsAssigned, IsAssignment, IsExpression, IsExprLine, ExprAt, DeclaratorAt}
-use Rattle.c_parser.specs.Codes.{close_bracket, close_paren, question, colon, comma, assignment_operators, abstract_starts, qualifiers}
+use Rattle.c_parser.specs.Codes.{close_bracket, close_paren, question, colon, comma, of_table, assignment_operators, abstract_starts, qualifiers}
 use Rattle.c_parser.specs.Nodes.{name_node, text_node, text_of, parenthesized_node, index_node, call_node, postfix_node, prefix_node, sizeof_expr_node, sizeof_type_node, binary_node, conditional_node, cast_node, assign_node, comma_node, is_unary, type_node, parameter_node, direct_name, declarator_node}
 use Rattle.c_parser.specs.Grammar.{IsBranches, operated, IsParameters, IsArguments}
 use Rattle.c_parser.specs.Reading.{Reader, begins, and_then, one, sign, token, pure, stop, choose, grown, listed, behind_comma, in_parens, specifiers, pointers, begins_type, encloses, located, array, parameter, parameters, function, suffix, suffixes, named, nested, bare, core, core_starts, may_end, core_behind, declarator_line, type_name, texts, parenthesized, constant, primary, index, arguments, call, postfix_part, postfix, sizeof, prefix, unary, typed, cast, operation, level, branches, conditional, assigned, assignment, expression, expr_line, expr_at, declarator_at}
@@ -31,7 +32,8 @@ use Rattle.c_parser.proofs.Peek.{Steady, Past, reads_peek, reads_located}
 use Rattle.c_parser.proofs.Past.{past_seq, past_first, past_other, past_this, steady_encloses, encloses_first, steady_type, type_first}
 use Rattle.c_parser.proofs.Starts.{Starts, starts_filled, starts_one, starts_sign, starts_sequence}
 use Rattle.c_parser.proofs.Short.{reads_seq, reads_after, reads_map, reads_if, reads_swap, reads_repeat, reads_one, reads_sign, heads_begins, of}
-use Rattle.c_parser.proofs.Words.{reads_specifiers, reads_pointers, reads_listed, reads_in_parens}
+use Rattle.c_parser.proofs.Words.{reads_specifiers, reads_pointers, reads_listed, reads_in_parens, starts_comma}
+use Rattle.c_parser.proofs.Unary.{unary_of_conditional, same_word}
 use Rattle.c_parser.proofs.ExprStarts.{expr_starts, primary_starts, starts_suffix, starts_bare, starts_named, starts_nested, starts_core, starts_declarator_line, starts_part, starts_unary, starts_typed, starts_cast, starts_level, starts_conditional, starts_in_parens, starts_type_name, starts_primary}
 
 module _ (src : Bytes) (n : ℕ) (SE : Start → Spelling Expr) (SD : Naming → Spelling Declarator) (E : Start → Reader Expr) (D : Naming → Reader Declarator)
@@ -247,3 +249,71 @@ module _ (src : Bytes) (n : ℕ) (SE : Start → Spelling Expr) (SD : Naming →
   reads_cast = reads_peek (suc n) begins_type (begins (open_paren ∷ [])) (IsTyped src SE SD) (IsUnary src SE SD) (typed src E D) (unary src E D) reads_typed reads_unary
       steady_type (heads_begins (open_paren ∷ [])) type_first
       (starts_filled (open_paren ∷ []) (IsTyped src SE SD) (starts_typed src SE SD)) (starts_filled expr_starts (IsUnary src SE SD) (starts_unary src SE SD)) past_typed past_unary
+
+  -- one level more, of which this is an operator
+  reads_next : (l : ℕ) → Reads (suc n) (Sign (binary_operators l)) (sign (binary_operators l)) → Reads (suc n) (IsLevel src SE SD l) (level src E D l) → Reads (suc n) (IsLevel src SE SD (suc l)) (level src E D (suc l))
+  unfolding level
+  reads_next l h below = reads_seq below (λ x. reads_repeat (kinds (binary_operators l)) _ (reads_seq h (λ p. reads_seq below (λ y. reads_is (suc n) (p, y))))
+      (starts_filled (kinds (binary_operators l)) (IsOperation src SE SD (binary_operators l) (IsLevel src SE SD l)) (starts_sequence (kinds (binary_operators l)) (Sign (binary_operators l)) (starts_sign (binary_operators l)) _)) x)
+
+  reads_operator : (l : ℕ) (kind : TokenKind) (p : ℕ × BinaryOp) → of_table (binary_operators l) (of kind) ≡ Some p → Reads (suc n) (Sign (binary_operators l)) (sign (binary_operators l))
+  reads_operator l kind p e = reads_sign (suc n) (binary_operators l) kind p e
+
+  reads_level_zero : Reads (suc n) (IsLevel src SE SD 0) (level src E D 0)
+  unfolding level
+  reads_level_zero = reads_cast
+
+  reads_level : Reads (suc n) (IsLevel src SE SD levels) (level src E D levels)
+  unfolding binary_operators
+  reads_level =
+      reads_next 9 (reads_operator 9 (Punct 29) _ refl) (reads_next 8 (reads_operator 8 (Punct 28) _ refl) (reads_next 7 (reads_operator 7 (Punct 27) _ refl)
+      (reads_next 6 (reads_operator 6 (Punct 26) _ refl) (reads_next 5 (reads_operator 5 (Punct 10) _ refl) (reads_next 4 (reads_operator 4 (Punct 24) _ refl)
+      (reads_next 3 (reads_operator 3 (Punct 20) _ refl) (reads_next 2 (reads_operator 2 (Punct 18) _ refl) (reads_next 1 (reads_operator 1 (Punct 12) _ refl)
+      (reads_next 0 (reads_operator 0 (Punct 11) _ refl) reads_level_zero)))))))))
+
+  reads_branches : Reads (suc n) (IsBranches src SE SD) (branches src E D)
+  unfolding branches
+  reads_branches = reads_after (reads_one (suc n) question (Punct 30) refl) (λ t. reads_seq (he at.Expression) (λ first. reads_seq (reads_one n colon (Punct 31) refl) (λ _. reads_seq (he at.Conditional) (λ second. reads_is n _))))
+
+  pub reads_conditional : Reads (suc n) (IsConditional src SE SD) (conditional src E D)
+  unfolding conditional
+  reads_conditional = reads_seq reads_level (λ x. reads_if (question ∷ []) (reads_map (λ f. f x) reads_branches) (reads_is (suc n) x))
+
+  reads_assigned : (x : Expr) → Reads (suc n) (IsAssigned src SE SD x) (assigned src E D x)
+  unfolding assigned
+  reads_assigned x = reads_after (reads_sign (suc n) assignment_operators (Punct 34) _ refl) (λ p. reads_seq (he at.Assignment) (λ y. reads_is n (assign_node x p.0 p.1 y)))
+
+  -- what stands behind a conditional expression, where it may be a left side
+  abbrev behind_left : Bool → Expr → Spelling Expr
+  behind_left true x = IsAssigned src SE SD x or Is x
+  behind_left false x = Is x
+
+  heads_left : (b : Bool) → Heads (λ w. b && begins (kinds assignment_operators) w)
+  heads_left b r s alike = ap (λ v. b && v) (begins_alike (kinds assignment_operators) r s alike)
+
+  reads_left : (b : Bool) (x : Expr) → Reads (suc n) (behind_left b x) (choose (λ w. b && begins (kinds assignment_operators) w) (assigned src E D x) (pure x))
+  reads_left true x = reads_choose (suc n) (λ w. true && begins (kinds assignment_operators) w) (IsAssigned src SE SD x) (Is x) (assigned src E D x) (pure x) (reads_assigned x) (reads_is (suc n) x) (heads_left true)
+  reads_left false x = reads_is (suc n) x
+
+  left_assignment : (b : Bool) (x y : Expr) (front back w : List Token) → is_unary x ≡ b → w ≡ front ++ back → IsConditional src SE SD x front → behind_left b x y back → IsAssignment src SE SD y w
+  left_assignment true x y front back w u e h (inl a) = inr (record { of = x; front = front; back = back; parts = e; first = unary_of_conditional src SE SD x front h u; second = a })
+  left_assignment true x y front back w u e h (inr i) = inl (same_word (IsConditional src SE SD) y x w front back i.0 e i.1 h)
+  left_assignment false x y front back w u e h i = inl (same_word (IsConditional src SE SD) y x w front back i.0 e i.1 h)
+
+  pub reads_assignment : Reads (suc n) (IsAssignment src SE SD) (assignment src E D)
+  unfolding assignment
+  reads_assignment = reads_wider (suc n) (Sequence (IsConditional src SE SD) (λ x. behind_left (is_unary x) x)) (IsAssignment src SE SD) (assignment src E D)
+      (λ y w h. left_assignment (is_unary h.of) h.of y h.front h.back w refl h.parts h.first h.second)
+      (reads_seq reads_conditional (λ x. reads_left (is_unary x) x))
+
+  pub reads_expression : Reads (suc n) (IsExpression src SE SD) (expression src E D)
+  unfolding expression
+  reads_expression = reads_seq reads_assignment (λ x. reads_repeat (comma ∷ []) comma_node (reads_seq (reads_one (suc n) comma (Punct 45) refl) (λ _. reads_assignment))
+      (starts_filled (comma ∷ []) (Sequence (One comma) (λ _. IsAssignment src SE SD)) (starts_comma (IsAssignment src SE SD))) x)
+
+  pub reads_expr_line : (start : Start) → Reads (suc n) (IsExprLine src SE SD start) (expr_line src E D start)
+  reads_expr_line at.Expression = reads_expression
+  reads_expr_line at.Assignment = reads_assignment
+  reads_expr_line at.Conditional = reads_conditional
+  reads_expr_line at.Cast = reads_cast
+  reads_expr_line at.Unary = reads_unary

@@ -10,3 +10,4 @@ pub mod ExprStarts
 pub mod Unary
 pub mod Past
 pub mod ExprFound
+pub mod FoundAt

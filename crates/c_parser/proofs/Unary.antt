@@ -92,6 +92,12 @@ conditional_other : (x : Expr) (line : ℕ) (y z : Expr) → Other (conditional_
 unfolding is_unary at_line out-ExprNode denote.Hole.Carrier.out
 conditional_other x line y z = refl
 
+pub same_word : {A : Type 0} (S : Spelling A) (x y : A) (w front back : List Token) → x ≡ y → w ≡ front ++ back → back ≡ [] → S y front → S x w
+same_word S x y w front back e d f h =
+    let P : List Token → Type 0 = λ v. S x v in
+    let Q : _ → Type 0 = λ z. S z front in
+    subst P (sym (d ∙ (ap (λ v. front ++ v) f ∙ append-nil front))) (subst Q (sym e) h)
+
 module _ (src : Bytes) (SE : Start → Spelling Expr) (SD : Naming → Spelling Declarator) where
   -- ---- a unary expression is a conditional one
 
@@ -143,12 +149,6 @@ module _ (src : Bytes) (SE : Start → Spelling Expr) (SD : Naming → Spelling 
 
   not_both : (x : Expr) → Unary x → Other x → ⊥
   not_both x u o = false_is_not_true (sym o ∙ u)
-
-  same_word : {A : Type 0} (S : Spelling A) (x y : A) (w front back : List Token) → x ≡ y → w ≡ front ++ back → back ≡ [] → S y front → S x w
-  same_word S x y w front back e d f h =
-      let P : List Token → Type 0 = λ v. S x v in
-      let Q : _ → Type 0 = λ z. S z front in
-      subst P (sym (d ∙ (ap (λ v. front ++ v) f ∙ append-nil front))) (subst Q (sym e) h)
 
   unary_of_level : (level : ℕ) (x : Expr) (w : List Token) → IsLevel src SE SD level x w → Unary x → IsUnary src SE SD x w
   unary_of_level zero x w (inl h) u = absurd (not_both x u (ap is_unary h.second.second.second.second.0 ∙ cast_other h.of.line h.second.of h.second.second.second.of))
