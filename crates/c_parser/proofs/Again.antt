@@ -8,7 +8,7 @@ use Rattle.c_parser.specs.Reading.{Reader, begins, and_then, token, taken, pure,
 use Rattle.c_parser.proofs.Sound.{Gap, gap_same, gap_token}
 use Rattle.c_parser.proofs.Repeat.{Filled}
 use Rattle.c_parser.proofs.Peek.{line_front}
-use Rattle.c_parser.proofs.Starts.{Starts, starts_filled, apart, within, begins_apart, within_one}
+use Rattle.c_parser.proofs.Starts.{Starts, starts_filled, apart, within, begins_apart, begins_with, within_one}
 use Rattle.c_parser.proofs.Alike.{false_is_not_true}
 
 -- a fact of the tokens that follow
@@ -64,6 +64,9 @@ again_after {n = n} {o = o} two = again_sequence {P = Anything} (suc n) n (again
 pub again_behind : {A B : Type 0} {n : ℕ} {o : Token → Option A} {T : A → Spelling B} {f : A → Reader B} {Q : Ahead}
     → ((a : A) → Again n (T a) (f a) Q) → Again n (Sequence (Means o) T) (λ w. and_then (token o w) f) Q
 again_behind {n = n} {o = o} two = again_seq {P = Anything} (again_token n o) (λ a. record { clear = λ x f rest h q. tt }) two
+
+pub clear_is : {A : Type 0} (a : A) (P Q : Ahead) → ((rest : List Token) → Q rest → P rest) → Clear P (Is a) Q
+clear_is a P Q into = record { clear = λ x f rest h q. (let T : List Token → Type 0 = λ v. P (v ++ rest) in subst T (sym h.1) (into rest q)) }
 
 pub again_map : {A B : Type 0} {n : ℕ} {S : Spelling A} {R : Reader A} {P : Ahead} (f : A → B) → Again n S R P → Again n (Sequence S (λ x. Is (f x))) (λ w. and_then (R w) (λ x. pure (f x))) P
 again_map {n = n} {P = P} f h = again_seq h (λ a. clear_is (f a) P P (λ rest q. q)) (λ a. again_is n (f a))
@@ -133,9 +136,6 @@ module _ {A B : Type 0} (n : ℕ) (test : List Token → Bool) (grow : A → B �
 
 pub clear_starts : {A : Type 0} {T : Spelling A} {Q : Ahead} (ks ls : List ℕ) → Starts ks T → apart ks ls ≡ true → Clear (Off ls) T Q
 clear_starts {T = T} ks ls s e = record { clear = λ x f rest h q. begins_apart ks T s ls e x f rest h }
-
-pub clear_is : {A : Type 0} (a : A) (P Q : Ahead) → ((rest : List Token) → Q rest → P rest) → Clear P (Is a) Q
-clear_is a P Q into = record { clear = λ x f rest h q. (let T : List Token → Type 0 = λ v. P (v ++ rest) in subst T (sym h.1) (into rest q)) }
 
 or_clear : {A : Type 0} (P Q : Ahead) (S T : Spelling A) → Clear P S Q → Clear P T Q → (x : A) (f rest : List Token) → (S or T) x f → Q rest → P (f ++ rest)
 or_clear P Q S T s t x f rest (inl h) q = s.clear x f rest h q

@@ -11,3 +11,4 @@ pub mod Unary
 pub mod Past
 pub mod ExprFound
 pub mod FoundAt
+pub mod ExprAgain

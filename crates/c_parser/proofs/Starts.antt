@@ -59,6 +59,13 @@ one_of_right : (ks ls : List ℕ) (k : ℕ) → one_of ls k ≡ true → one_of 
 one_of_right [] ls k e = e
 one_of_right (j ∷ ks) ls k e = or_right (k == j) (one_of (ks ++ ls) k) (one_of_right ks ls k e)
 
+both_and : (a b : Bool) → a ≡ true → b ≡ true → (a && b) ≡ true
+both_and true b e d = d
+both_and false b e d = e
+
+eq_self : (k : ℕ) → (k == k) ≡ true
+eq_self k = search rules
+
 pub within_one : (ks ls : List ℕ) (k : ℕ) → within ks ls ≡ true → one_of ks k ≡ true → one_of ls k ≡ true
 within_one [] ls k w e = absurd (false_is_not_true e)
 within_one (j ∷ ks) ls k w e =
@@ -124,3 +131,55 @@ table_says table t p None e d = absurd (none_is_not_some p d)
 
 pub starts_sign : {A : Type 0} (table : Table A) → Starts (kinds table) (Sign table)
 starts_sign table p w h = record { first = h.0; rest = []; parts = h.1; kind = table_says table h.0 p (meaning table (code h.0)) refl h.2 }
+
+-- ---- lists of kinds
+
+pub within_all : (ks ls : List ℕ) → ((k : ℕ) → one_of ks k ≡ true → one_of ls k ≡ true) → within ks ls ≡ true
+within_all [] ls h = refl
+within_all (k ∷ ks) ls h = both_and (one_of ls k) (within ks ls) (h k (ap (λ b. b || one_of ks k) (eq_self k))) (within_all ks ls (λ j e. h j (or_right (j == k) (one_of ks j) e)))
+
+pub within_left : (ks ls : List ℕ) → within ks (ks ++ ls) ≡ true
+within_left ks ls = within_all ks (ks ++ ls) (λ k e. one_of_left ks ls k e)
+
+pub within_right : (ks ls : List ℕ) → within ls (ks ++ ls) ≡ true
+within_right ks ls = within_all ls (ks ++ ls) (λ k e. one_of_right ks ls k e)
+
+pub within_self : (ks : List ℕ) → within ks ks ≡ true
+within_self ks = within_all ks ks (λ k e. e)
+
+-- ---- the second token
+
+pub record Pair (ks ls : List ℕ) (w : List Token) : Type 0 where
+  pub first : Token
+  pub next : Token
+  pub rest : List Token
+  pub parts : w ≡ first ∷ next ∷ rest
+  pub kind : one_of ks (code first) ≡ true
+  pub second : one_of ls (code next) ≡ true
+
+pub pair_append : (ks ls : List ℕ) (w front back : List Token) → w ≡ front ++ back → Pair ks ls front → Pair ks ls w
+pair_append ks ls w front back e p = record { first = p.first; next = p.next; rest = p.rest ++ back; parts = e ∙ ap (λ v. v ++ back) p.parts; kind = p.kind; second = p.second }
+
+pub pair_one : {B : Type 0} (k : ℕ) (ls : List ℕ) (T : Token → Spelling B) → ((t : Token) → Starts ls (T t)) → (x : B) (w : List Token) → Sequence (One k) T x w → Pair (k ∷ []) ls w
+pair_one k ls T starts x w h =
+    let r = starts h.of x h.back h.second in
+    let o = starts_one k h.of h.front h.first in
+    record { first = h.first.0; next = r.first; rest = r.rest; parts = h.parts ∙ (ap (λ v. v ++ h.back) h.first.1 ∙ ap (λ v. h.first.0 ∷ v) r.parts); kind = of_kind_says k h.first.0 h.of h.first.2 (code h.first.0 == k) refl; second = r.kind }
+
+pub pair_first : (ks ls ms : List ℕ) (w rest : List Token) → Pair ks ls w → within ks ms ≡ true → begins ms (w ++ rest) ≡ true
+unfolding begins
+pair_first ks ls ms w rest p e = ap (λ v. begins ms (v ++ rest)) p.parts ∙ within_one ks ms (code p.first) e p.kind
+
+pub pair_second : (ks ls ms : List ℕ) (w rest : List Token) → Pair ks ls w → within ls ms ≡ true → then_begins ms (w ++ rest) ≡ true
+unfolding then_begins begins
+pair_second ks ls ms w rest p e = ap (λ v. then_begins ms (v ++ rest)) p.parts ∙ within_one ls ms (code p.next) e p.second
+
+pub pair_apart : (ks ls ms : List ℕ) (w rest : List Token) → Pair ks ls w → apart ls ms ≡ true → then_begins ms (w ++ rest) ≡ false
+unfolding then_begins begins
+pair_apart ks ls ms w rest p e = ap (λ v. then_begins ms (v ++ rest)) p.parts ∙ apart_one ls ms (code p.next) e p.second
+
+-- where the first part may be empty
+pub starts_empty : {A B : Type 0} (ks : List ℕ) (S : Spelling A) (a : A) (T : A → Spelling B) → Starts ks S → ((b : A) → Starts ks (T b)) → Starts ks (Sequence (S or Is a) T)
+starts_empty ks S a T s t x w h = elim h.first [
+      inl one ↦ (let r = s h.of h.front one in record { first = r.first; rest = r.rest ++ h.back; parts = h.parts ∙ ap (λ v. v ++ h.back) r.parts; kind = r.kind })
+    | inr none ↦ (let r = t h.of x h.back h.second in record { first = r.first; rest = r.rest; parts = h.parts ∙ (ap (λ v. v ++ h.back) none.1 ∙ r.parts); kind = r.kind }) ]

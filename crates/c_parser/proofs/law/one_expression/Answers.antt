@@ -1,3 +1,4 @@
+use Rattle.c_parser.proofs.ExprAgain
 use Rattle.c_parser.proofs.FoundAt
 use Rattle.c_parser.proofs.ExprFound
 use Rattle.c_parser.proofs.Unary
