@@ -4,6 +4,7 @@ use Rattle.std.proofs.lemmas.List.{append-nil, append_assoc}
 use Rattle.c_lexer.specs.declared.token.Token.{Token}
 use Rattle.c_lexer.specs.declared.token.TokenKind.{TokenKind}
 use Rattle.c_lexer.specs.declared.token.TokenKind.TheVariants.{Keyword, Name, Number, Character, Text, Punct}
+use Rattle.c_tree.specs.declared.expression.TypeName.{TypeName}
 use Rattle.c_tree.specs.declared.operator.PrefixOp.{PrefixOp}
 use Rattle.c_tree.specs.declared.operator.BinaryOp.{BinaryOp}
 use Rattle.c_tree.specs.declared.expression.Expr.{Expr}
@@ -117,6 +118,21 @@ and_false false = refl
 or_none : (P : Type 0) → P ⊎ ⊥ → P
 or_none P (inl h) = h
 or_none P (inr h) = absurd h
+
+-- operators of a level do not go on with operands of it
+level_apart : (l : ℕ) → apart (kinds (binary_operators l)) (level_on l) ≡ true
+unfolding level_on binary_operators
+level_apart zero = refl
+level_apart (suc zero) = refl
+level_apart (suc (suc zero)) = refl
+level_apart (suc (suc (suc zero))) = refl
+level_apart (suc (suc (suc (suc zero)))) = refl
+level_apart (suc (suc (suc (suc (suc zero))))) = refl
+level_apart (suc (suc (suc (suc (suc (suc zero)))))) = refl
+level_apart (suc (suc (suc (suc (suc (suc (suc zero))))))) = refl
+level_apart (suc (suc (suc (suc (suc (suc (suc (suc zero)))))))) = refl
+level_apart (suc (suc (suc (suc (suc (suc (suc (suc (suc zero))))))))) = refl
+level_apart (suc (suc (suc (suc (suc (suc (suc (suc (suc (suc l)))))))))) = refl
 
 module _ (src : Bytes) (n : ℕ) (SE : Start → Spelling Expr) (SD : Naming → Spelling Declarator) (E : Start → Reader Expr) (D : Naming → Reader Declarator)
     (he : (start : Start) → Again n (SE start) (E start) (Off (expr_on start))) (hd : (naming : Naming) → Again n (SD naming) (D naming) (Off declarator_on))
@@ -318,3 +334,110 @@ module _ (src : Bytes) (n : ℕ) (SE : Start → Spelling Expr) (SD : Naming →
   again_postfix = again_seq again_primary
       (λ x. clear_grown (λ y part. part y) x (clear_starts postfix_starts (text ∷ []) (starts_part src SE SD) refl) (off_within (text ∷ []) unary_on refl))
       (λ x. again_repeat postfix_starts [] unary_on (λ y part. part y) again_part (starts_part src SE SD) refl refl refl refl x)
+
+  -- a `(` in front of a type's name begins no unary expression
+  not_open : {A : Type 0} (ks : List ℕ) (S : Spelling A) → Starts ks S → apart ks (open_paren ∷ []) ≡ true → (x : A) (f rest : List Token) → S x f → begins_type (f ++ rest) ≡ false
+  unfolding begins_type
+  not_open ks S s e x f rest h = ap (λ b. b && then_begins specifier_starts (f ++ rest)) (begins_apart ks S s (open_paren ∷ []) e x f rest h)
+
+  pair_not : (f rest : List Token) → Pair (open_paren ∷ []) expr_starts f → begins_type (f ++ rest) ≡ false
+  unfolding begins_type
+  pair_not f rest p = ap (λ b. begins (open_paren ∷ []) (f ++ rest) && b) (pair_apart (open_paren ∷ []) expr_starts specifier_starts f rest p refl) ∙ and_false (begins (open_paren ∷ []) (f ++ rest))
+
+  primary_not : (x : Expr) (f rest : List Token) → IsPrimary src SE SD x f → begins_type (f ++ rest) ≡ false
+  primary_not x f rest (inl h) = not_open (name ∷ []) (IsName src SE SD) (starts_name src SE SD) refl x f rest h
+  primary_not x f rest (inr (inl h)) = not_open (text ∷ []) (IsTexts src SE SD) (starts_texts src SE SD) refl x f rest h
+  primary_not x f rest (inr (inr (inl h))) = pair_not f rest (pair_one open_paren expr_starts _ (λ t. starts_sequence expr_starts (SE at.Expression) (se at.Expression) _) x f h)
+  primary_not x f rest (inr (inr (inr h))) = not_open (number ∷ character ∷ []) (IsConstant src SE SD) starts_constant refl x f rest h
+
+  pub unary_not : (x : Expr) (f rest : List Token) → IsUnary src SE SD x f → begins_type (f ++ rest) ≡ false
+  unary_not x f rest (inl h) = not_open (sizeof_word ∷ []) (IsSizeof src SE SD) (starts_sizeof src SE SD) refl x f rest h
+  unary_not x f rest (inr (inl h)) = not_open (kinds step_operators) (IsPrefix src SE SD step_operators at.Unary) (starts_prefix src SE SD step_operators at.Unary) refl x f rest h
+  unary_not x f rest (inr (inr (inl h))) = not_open (kinds unary_operators) (IsPrefix src SE SD unary_operators at.Cast) (starts_prefix src SE SD unary_operators at.Cast) refl x f rest h
+  unary_not x f rest (inr (inr (inr h))) =
+      ap begins_type (ap (λ v. v ++ rest) h.parts ∙ append_assoc h.front h.back rest) ∙ primary_not h.of h.front (h.back ++ rest) h.first
+
+  pair_type : (f rest : List Token) → Pair (open_paren ∷ []) specifier_starts f → begins_type (f ++ rest) ≡ true
+  unfolding begins_type
+  pair_type f rest p = ap (λ b. b && then_begins specifier_starts (f ++ rest)) (pair_first (open_paren ∷ []) specifier_starts (open_paren ∷ []) f rest p refl) ∙ pair_second (open_paren ∷ []) specifier_starts specifier_starts f rest p refl
+
+  type_parens : (x : TypeName) (f rest : List Token) → In_parens (IsTypeName src SE SD) x f → begins_type (f ++ rest) ≡ true
+  type_parens x f rest h = pair_type f rest (pair_one open_paren specifier_starts _ (λ t. starts_sequence specifier_starts (IsTypeName src SE SD) (starts_type_name src SE SD) _) x f h)
+
+  in_front : {A B : Type 0} (S : Spelling A) (T : A → Spelling B) (test : List Token → Bool) (b : Bool) → ((x : A) (f rest : List Token) → S x f → test (f ++ rest) ≡ b) → (y : B) (f rest : List Token) → Sequence S T y f → test (f ++ rest) ≡ b
+  in_front S T test b all y f rest h = ap test (ap (λ v. v ++ rest) h.parts ∙ append_assoc h.front h.back rest) ∙ all h.of h.front (h.back ++ rest) h.first
+
+  again_sizeof : Again (suc n) (IsSizeof src SE SD) (sizeof src E D) (Off unary_on)
+  unfolding sizeof expr_on
+  again_sizeof = again_after (λ t. again_choose begins_type
+      (again_map (sizeof_type_node t.line) (again_parens_here parameter_on again_type_name refl)) (again_map (sizeof_expr_node t.line) (he at.Unary))
+      (λ x f rest h p. in_front (In_parens (IsTypeName src SE SD)) _ begins_type true type_parens x f rest h) (λ x f rest h p. in_front (SE at.Unary) _ begins_type false st x f rest h))
+
+  again_prefix : (table : Table PrefixOp) (start : Start) → (expr_on start ≡ unary_on) → Again (suc n) (IsPrefix src SE SD table start) (prefix src E D table start) (Off unary_on)
+  unfolding prefix
+  again_prefix table start e = again_after (λ p. again_seq (again_ahead (λ rest q. (let P : List ℕ → Type 0 = λ ks. Off ks rest in subst P (sym e) q)) (he start)) (λ x. clear_is _ (Off unary_on) (Off unary_on) (λ rest q. q)) (λ x. again_is n (prefix_node p.0 p.1 x)))
+
+  on_unary : expr_on at.Unary ≡ unary_on
+  unfolding expr_on
+  on_unary = refl
+
+  on_cast : expr_on at.Cast ≡ unary_on
+  unfolding expr_on
+  on_cast = refl
+
+  abbrev prefix_starts : List ℕ
+  prefix_starts = kinds unary_operators ++ primary_starts
+
+  starts_prefixed : Starts prefix_starts (IsPrefix src SE SD unary_operators at.Cast or IsPostfix src SE SD)
+  starts_prefixed = starts_either prefix_starts (IsPrefix src SE SD unary_operators at.Cast) (IsPostfix src SE SD)
+      (starts_wider (kinds unary_operators) (IsPrefix src SE SD unary_operators at.Cast) (starts_prefix src SE SD unary_operators at.Cast) prefix_starts refl) (starts_wider primary_starts (IsPostfix src SE SD) (starts_postfix src SE SD) prefix_starts refl)
+
+  starts_stepped : Starts (kinds step_operators ++ prefix_starts) (IsPrefix src SE SD step_operators at.Unary or IsPrefix src SE SD unary_operators at.Cast or IsPostfix src SE SD)
+  starts_stepped = starts_either (kinds step_operators ++ prefix_starts) (IsPrefix src SE SD step_operators at.Unary) (IsPrefix src SE SD unary_operators at.Cast or IsPostfix src SE SD)
+      (starts_wider (kinds step_operators) (IsPrefix src SE SD step_operators at.Unary) (starts_prefix src SE SD step_operators at.Unary) (kinds step_operators ++ prefix_starts) refl)
+      (starts_wider prefix_starts (IsPrefix src SE SD unary_operators at.Cast or IsPostfix src SE SD) starts_prefixed (kinds step_operators ++ prefix_starts) refl)
+
+  again_unary : Again (suc n) (IsUnary src SE SD) (unary src E D) (Off unary_on)
+  unfolding unary
+  again_unary = again_if (sizeof_word ∷ []) (kinds step_operators ++ prefix_starts) (sizeof_word ∷ []) (starts_sizeof src SE SD) refl starts_stepped refl again_sizeof
+      (again_if (kinds step_operators) prefix_starts (kinds step_operators) (starts_prefix src SE SD step_operators at.Unary) refl starts_prefixed refl (again_prefix step_operators at.Unary on_unary)
+      (again_if (kinds unary_operators) primary_starts (kinds unary_operators) (starts_prefix src SE SD unary_operators at.Cast) refl (starts_postfix src SE SD) refl (again_prefix unary_operators at.Cast on_cast) again_postfix))
+
+  again_typed : Again (suc n) (IsTyped src SE SD) (typed src E D) (Off unary_on)
+  unfolding typed
+  again_typed = again_after (λ t. again_seq again_type_name (λ ty. clear_one close_paren parameter_on _ refl) (λ ty. again_behind (λ _.
+      again_seq (again_ahead (λ rest q. (let P : List ℕ → Type 0 = λ ks. Off ks rest in subst P (sym on_cast) q)) (he at.Cast)) (λ x. clear_is _ (Off unary_on) (Off unary_on) (λ rest q. q)) (λ x. again_is n (cast_node t.line ty x)))))
+
+  again_cast : Again (suc n) (IsCast src SE SD) (cast src E D) (Off unary_on)
+  unfolding cast
+  again_cast = again_choose begins_type again_typed again_unary
+      (λ x f rest h p. pair_type f rest (pair_one open_paren specifier_starts _ (λ t. starts_sequence specifier_starts (IsTypeName src SE SD) (starts_type_name src SE SD) _) x f h)) (λ x f rest h p. unary_not x f rest h)
+
+  -- ---- levels
+
+  starts_operation : (l : ℕ) → Starts (kinds (binary_operators l)) (IsOperation src SE SD (binary_operators l) (IsLevel src SE SD l))
+  starts_operation l = starts_sequence (kinds (binary_operators l)) (Sign (binary_operators l)) (starts_sign (binary_operators l)) _
+
+  again_level : (l : ℕ) → Again (suc n) (IsLevel src SE SD l) (level src E D l) (Off (level_on l))
+  unfolding level level_on
+  again_level zero = again_cast
+  again_level (suc l) = again_seq (again_level l)
+      (λ x. clear_grown (operated src SE SD) x (clear_starts (kinds (binary_operators l)) (level_on l) (starts_operation l) (level_apart l)) (off_within (level_on l) (kinds (binary_operators l) ++ level_on l) (within_right (kinds (binary_operators l)) (level_on l))))
+      (λ x. again_repeat (kinds (binary_operators l)) (level_on l) (kinds (binary_operators l) ++ level_on l) (operated src SE SD)
+        (again_behind (λ p. again_seq (again_level l) (λ y. clear_is (p, y) (Off (level_on l)) (Off (level_on l)) (λ rest q. q)) (λ y. again_is (suc n) (p, y))))
+        (starts_operation l) (level_apart l) (within_self (kinds (binary_operators l))) (within_left (kinds (binary_operators l)) (level_on l)) (within_right (kinds (binary_operators l)) (level_on l)) x)
+
+  again_branches : Again (suc n) (IsBranches src SE SD) (branches src E D) (Off (expr_on at.Conditional))
+  unfolding branches expr_on level_on binary_operators
+  again_branches = again_after (λ t. again_seq (he at.Expression) (λ first. clear_one colon (expr_on at.Expression) _ refl) (λ first. again_behind (λ _.
+      again_seq (he at.Conditional) (λ second. clear_is _ (Off (expr_on at.Conditional)) (Off (expr_on at.Conditional)) (λ rest q. q)) (λ second. again_is n _))))
+
+  starts_branches : Starts (question ∷ []) (IsBranches src SE SD)
+  starts_branches = starts_sequence (question ∷ []) (One question) (starts_one question) _
+
+  pub again_conditional : Again (suc n) (IsConditional src SE SD) (conditional src E D) (Off (expr_on at.Conditional))
+  unfolding conditional expr_on level_on binary_operators
+  again_conditional = again_seq (again_level levels)
+      (λ x. clear_or (clear_starts (question ∷ []) (level_on levels) (starts_sequence (question ∷ []) (IsBranches src SE SD) starts_branches _) refl) (clear_is x (Off (level_on levels)) (Off (expr_on at.Conditional)) (off_within (level_on levels) (expr_on at.Conditional) refl)))
+      (λ x. again_maybe (question ∷ []) (question ∷ []) (starts_sequence (question ∷ []) (IsBranches src SE SD) starts_branches _) refl (clear_is x (Off (question ∷ [])) (Off (expr_on at.Conditional)) (off_within (question ∷ []) (expr_on at.Conditional) refl))
+        (again_map (λ f. f x) again_branches) (again_is (suc n) x))
