@@ -1,5 +1,5 @@
 -- The readers of expressions and declarators read what is spelled.
-use Rattle.std.proofs.Common.{◌≡◌, ℕ, zero, suc, ◌+◌, ◌<◌, ◌≤◌, length, arith, length-append, not, ◌&&◌, Bool, true, false, List, [], ◌∷◌, ◌++◌, refl, ap, sym, ◌∙◌, Option, Some, None, option_map, fold, ◌⊎◌, inl, inr}
+use Rattle.std.proofs.Common.{◌≡◌, ℕ, zero, suc, ◌+◌, ◌<◌, ◌≤◌, length, arith, length-append, not, ◌&&◌, subst, Bool, true, false, List, [], ◌∷◌, ◌++◌, refl, ap, sym, ◌∙◌, Option, Some, None, option_map, fold, ◌⊎◌, inl, inr}
 use Rattle.std.proofs.lemmas.List.{append-nil, append_assoc}
 use Rattle.c_lexer.specs.declared.token.Token.{Token}
 use Rattle.c_lexer.specs.declared.token.TokenKind.{TokenKind}
@@ -32,11 +32,12 @@ use Rattle.c_parser.specs.Nodes.{specifier_node, pointer_node, qualified}
 use Rattle.c_parser.specs.Spelling.{push}
 use Rattle.c_parser.specs.Reading.{specifier, pointer, then_begins, ◌<$>◌}
 use Rattle.c_parser.proofs.Past.{begins_other, begins_this}
+use Rattle.c_parser.proofs.Alike.{false_is_not_true}
 use Rattle.c_parser.proofs.Repeat.{Filled}
 use Rattle.c_parser.proofs.Starts.{Starts, apart, within, starts_filled, starts_one, starts_sign, starts_sequence, starts_wider, starts_either, starts_empty, begins_with, begins_apart, within_left, within_right, within_self, within_all, Pair, pair_append, pair_one, pair_first, pair_second, pair_apart}
 use Rattle.c_parser.proofs.Again.{Ahead, Off, On, Anything, Again, Clear, again_seq, again_is, again_token, again_after, again_behind, again_map, again_choose, again_if, again_maybe, again_swap, again_grown, again_repeat, clear_starts, clear_is, clear_or, clear_grown, clear_sequence, again_located, again_narrower, again_ahead, again_fewer, off_within}
 use Rattle.c_parser.proofs.Words.{starts_specifier, starts_specifiers, starts_pointer, starts_comma}
-use Rattle.c_parser.proofs.Unary.{unary_of_conditional, conditional_of_unary, unary_is_unary, same_word}
+use Rattle.c_parser.proofs.Unary.{unary_of_conditional, conditional_of_unary, unary_is_unary, behind_left}
 use Rattle.c_parser.proofs.ExprStarts.{expr_starts, primary_starts, starts_array, starts_function, starts_suffix, starts_parameter, starts_bare, starts_named, starts_nested, starts_core, filled_line, starts_name, starts_texts, starts_parenthesized, starts_constant, starts_primary, starts_index, starts_call, starts_step, starts_part, starts_postfix, starts_sizeof, starts_prefix, starts_unary, starts_typed, starts_cast, starts_level, starts_conditional, starts_assignment, starts_in_parens, starts_type_name}
 
 -- what a line may go on with
@@ -133,6 +134,29 @@ level_apart (suc (suc (suc (suc (suc (suc (suc zero))))))) = refl
 level_apart (suc (suc (suc (suc (suc (suc (suc (suc zero)))))))) = refl
 level_apart (suc (suc (suc (suc (suc (suc (suc (suc (suc zero))))))))) = refl
 level_apart (suc (suc (suc (suc (suc (suc (suc (suc (suc (suc l)))))))))) = refl
+
+module _ (src : Bytes) (SE : Start → Spelling Expr) (SD : Naming → Spelling Declarator) (se : (start : Start) → Starts expr_starts (SE start)) where
+  -- a `(` in front of a type's name begins no unary expression
+  not_open : {A : Type 0} (ks : List ℕ) (S : Spelling A) → Starts ks S → apart ks (open_paren ∷ []) ≡ true → (x : A) (f rest : List Token) → S x f → begins_type (f ++ rest) ≡ false
+  unfolding begins_type
+  not_open ks S s e x f rest h = ap (λ b. b && then_begins specifier_starts (f ++ rest)) (begins_apart ks S s (open_paren ∷ []) e x f rest h)
+
+  pair_not : (f rest : List Token) → Pair (open_paren ∷ []) expr_starts f → begins_type (f ++ rest) ≡ false
+  unfolding begins_type
+  pair_not f rest p = ap (λ b. begins (open_paren ∷ []) (f ++ rest) && b) (pair_apart (open_paren ∷ []) expr_starts specifier_starts f rest p refl) ∙ and_false (begins (open_paren ∷ []) (f ++ rest))
+
+  primary_not : (x : Expr) (f rest : List Token) → IsPrimary src SE SD x f → begins_type (f ++ rest) ≡ false
+  primary_not x f rest (inl h) = not_open (name ∷ []) (IsName src SE SD) (starts_name src SE SD) refl x f rest h
+  primary_not x f rest (inr (inl h)) = not_open (text ∷ []) (IsTexts src SE SD) (starts_texts src SE SD) refl x f rest h
+  primary_not x f rest (inr (inr (inl h))) = pair_not f rest (pair_one open_paren expr_starts _ (λ t. starts_sequence expr_starts (SE at.Expression) (se at.Expression) _) x f h)
+  primary_not x f rest (inr (inr (inr h))) = not_open (number ∷ character ∷ []) (IsConstant src SE SD) starts_constant refl x f rest h
+
+  pub unary_not : (x : Expr) (f rest : List Token) → IsUnary src SE SD x f → begins_type (f ++ rest) ≡ false
+  unary_not x f rest (inl h) = not_open (sizeof_word ∷ []) (IsSizeof src SE SD) (starts_sizeof src SE SD) refl x f rest h
+  unary_not x f rest (inr (inl h)) = not_open (kinds step_operators) (IsPrefix src SE SD step_operators at.Unary) (starts_prefix src SE SD step_operators at.Unary) refl x f rest h
+  unary_not x f rest (inr (inr (inl h))) = not_open (kinds unary_operators) (IsPrefix src SE SD unary_operators at.Cast) (starts_prefix src SE SD unary_operators at.Cast) refl x f rest h
+  unary_not x f rest (inr (inr (inr h))) =
+      ap begins_type (ap (λ v. v ++ rest) h.parts ∙ append_assoc h.front h.back rest) ∙ primary_not h.of h.front (h.back ++ rest) h.first
 
 module _ (src : Bytes) (n : ℕ) (SE : Start → Spelling Expr) (SD : Naming → Spelling Declarator) (E : Start → Reader Expr) (D : Naming → Reader Declarator)
     (he : (start : Start) → Again n (SE start) (E start) (Off (expr_on start))) (hd : (naming : Naming) → Again n (SD naming) (D naming) (Off declarator_on))
@@ -335,28 +359,6 @@ module _ (src : Bytes) (n : ℕ) (SE : Start → Spelling Expr) (SD : Naming →
       (λ x. clear_grown (λ y part. part y) x (clear_starts postfix_starts (text ∷ []) (starts_part src SE SD) refl) (off_within (text ∷ []) unary_on refl))
       (λ x. again_repeat postfix_starts [] unary_on (λ y part. part y) again_part (starts_part src SE SD) refl refl refl refl x)
 
-  -- a `(` in front of a type's name begins no unary expression
-  not_open : {A : Type 0} (ks : List ℕ) (S : Spelling A) → Starts ks S → apart ks (open_paren ∷ []) ≡ true → (x : A) (f rest : List Token) → S x f → begins_type (f ++ rest) ≡ false
-  unfolding begins_type
-  not_open ks S s e x f rest h = ap (λ b. b && then_begins specifier_starts (f ++ rest)) (begins_apart ks S s (open_paren ∷ []) e x f rest h)
-
-  pair_not : (f rest : List Token) → Pair (open_paren ∷ []) expr_starts f → begins_type (f ++ rest) ≡ false
-  unfolding begins_type
-  pair_not f rest p = ap (λ b. begins (open_paren ∷ []) (f ++ rest) && b) (pair_apart (open_paren ∷ []) expr_starts specifier_starts f rest p refl) ∙ and_false (begins (open_paren ∷ []) (f ++ rest))
-
-  primary_not : (x : Expr) (f rest : List Token) → IsPrimary src SE SD x f → begins_type (f ++ rest) ≡ false
-  primary_not x f rest (inl h) = not_open (name ∷ []) (IsName src SE SD) (starts_name src SE SD) refl x f rest h
-  primary_not x f rest (inr (inl h)) = not_open (text ∷ []) (IsTexts src SE SD) (starts_texts src SE SD) refl x f rest h
-  primary_not x f rest (inr (inr (inl h))) = pair_not f rest (pair_one open_paren expr_starts _ (λ t. starts_sequence expr_starts (SE at.Expression) (se at.Expression) _) x f h)
-  primary_not x f rest (inr (inr (inr h))) = not_open (number ∷ character ∷ []) (IsConstant src SE SD) starts_constant refl x f rest h
-
-  pub unary_not : (x : Expr) (f rest : List Token) → IsUnary src SE SD x f → begins_type (f ++ rest) ≡ false
-  unary_not x f rest (inl h) = not_open (sizeof_word ∷ []) (IsSizeof src SE SD) (starts_sizeof src SE SD) refl x f rest h
-  unary_not x f rest (inr (inl h)) = not_open (kinds step_operators) (IsPrefix src SE SD step_operators at.Unary) (starts_prefix src SE SD step_operators at.Unary) refl x f rest h
-  unary_not x f rest (inr (inr (inl h))) = not_open (kinds unary_operators) (IsPrefix src SE SD unary_operators at.Cast) (starts_prefix src SE SD unary_operators at.Cast) refl x f rest h
-  unary_not x f rest (inr (inr (inr h))) =
-      ap begins_type (ap (λ v. v ++ rest) h.parts ∙ append_assoc h.front h.back rest) ∙ primary_not h.of h.front (h.back ++ rest) h.first
-
   pair_type : (f rest : List Token) → Pair (open_paren ∷ []) specifier_starts f → begins_type (f ++ rest) ≡ true
   unfolding begins_type
   pair_type f rest p = ap (λ b. b && then_begins specifier_starts (f ++ rest)) (pair_first (open_paren ∷ []) specifier_starts (open_paren ∷ []) f rest p refl) ∙ pair_second (open_paren ∷ []) specifier_starts specifier_starts f rest p refl
@@ -411,7 +413,7 @@ module _ (src : Bytes) (n : ℕ) (SE : Start → Spelling Expr) (SD : Naming →
   again_cast : Again (suc n) (IsCast src SE SD) (cast src E D) (Off unary_on)
   unfolding cast
   again_cast = again_choose begins_type again_typed again_unary
-      (λ x f rest h p. pair_type f rest (pair_one open_paren specifier_starts _ (λ t. starts_sequence specifier_starts (IsTypeName src SE SD) (starts_type_name src SE SD) _) x f h)) (λ x f rest h p. unary_not x f rest h)
+      (λ x f rest h p. pair_type f rest (pair_one open_paren specifier_starts _ (λ t. starts_sequence specifier_starts (IsTypeName src SE SD) (starts_type_name src SE SD) _) x f h)) (λ x f rest h p. unary_not src SE SD se x f rest h)
 
   -- ---- levels
 
@@ -441,3 +443,51 @@ module _ (src : Bytes) (n : ℕ) (SE : Start → Spelling Expr) (SD : Naming →
       (λ x. clear_or (clear_starts (question ∷ []) (level_on levels) (starts_sequence (question ∷ []) (IsBranches src SE SD) starts_branches _) refl) (clear_is x (Off (level_on levels)) (Off (expr_on at.Conditional)) (off_within (level_on levels) (expr_on at.Conditional) refl)))
       (λ x. again_maybe (question ∷ []) (question ∷ []) (starts_sequence (question ∷ []) (IsBranches src SE SD) starts_branches _) refl (clear_is x (Off (question ∷ [])) (Off (expr_on at.Conditional)) (off_within (question ∷ []) (expr_on at.Conditional) refl))
         (again_map (λ f. f x) again_branches) (again_is (suc n) x))
+
+  again_assigned : (x : Expr) → Again (suc n) (IsAssigned src SE SD x) (assigned src E D x) (Off (expr_on at.Assignment))
+  unfolding assigned
+  again_assigned x = again_after (λ p. again_seq (he at.Assignment) (λ y. clear_is (assign_node x p.0 p.1 y) (Off (expr_on at.Assignment)) (Off (expr_on at.Assignment)) (λ rest q. q)) (λ y. again_is n (assign_node x p.0 p.1 y)))
+
+  starts_assigned : (x : Expr) → Starts (kinds assignment_operators) (IsAssigned src SE SD x)
+  starts_assigned x = starts_sequence (kinds assignment_operators) (Sign assignment_operators) (starts_sign assignment_operators) _
+
+  again_left : (b : Bool) (x : Expr) → Again (suc n) (behind_left src SE SD b x) (choose (λ w. b && begins (kinds assignment_operators) w) (assigned src E D x) (pure x)) (Off (expr_on at.Assignment))
+  unfolding expr_on level_on binary_operators
+  again_left true x = again_maybe (kinds assignment_operators) (kinds assignment_operators) (starts_assigned x) refl (clear_is x (Off (kinds assignment_operators)) (Off (expr_on at.Assignment)) (off_within (kinds assignment_operators) (expr_on at.Assignment) refl)) (again_assigned x) (again_is (suc n) x)
+  again_left false x = again_is (suc n) x
+
+  clear_left : (b : Bool) (x : Expr) → Clear (Off (expr_on at.Conditional)) (behind_left src SE SD b x) (Off (expr_on at.Assignment))
+  unfolding expr_on level_on binary_operators
+  clear_left true x = clear_or (clear_starts (kinds assignment_operators) (expr_on at.Conditional) (starts_assigned x) refl) (clear_is x (Off (expr_on at.Conditional)) (Off (expr_on at.Assignment)) (off_within (expr_on at.Conditional) (expr_on at.Assignment) refl))
+  clear_left false x = clear_is x (Off (expr_on at.Conditional)) (Off (expr_on at.Assignment)) (off_within (expr_on at.Conditional) (expr_on at.Assignment) refl)
+
+  right_of : (b : Bool) (x y : Expr) (w : List Token) → b ≡ true → IsAssigned src SE SD x y w → behind_left src SE SD b x y w
+  right_of true x y w e h = inl h
+  right_of false x y w e h = absurd (false_is_not_true e)
+
+  nothing_behind : (b : Bool) (x : Expr) → behind_left src SE SD b x x []
+  nothing_behind true x = inr (refl, refl)
+  nothing_behind false x = (refl, refl)
+
+  assignment_left : (y : Expr) (w : List Token) → IsAssignment src SE SD y w → Sequence (IsConditional src SE SD) (λ x. behind_left src SE SD (is_unary x) x) y w
+  assignment_left y w (inl h) = record { of = y; front = w; back = []; parts = sym (append-nil w); first = h; second = nothing_behind (is_unary y) y }
+  assignment_left y w (inr h) = record { of = h.of; front = h.front; back = h.back; parts = h.parts; first = conditional_of_unary src SE SD h.of h.front h.first;
+      second = right_of (is_unary h.of) h.of y h.back (unary_is_unary src SE SD h.of h.front h.first) h.second }
+
+  pub again_assignment : Again (suc n) (IsAssignment src SE SD) (assignment src E D) (Off (expr_on at.Assignment))
+  unfolding assignment
+  again_assignment = again_narrower assignment_left (again_seq again_conditional (λ x. clear_left (is_unary x) x) (λ x. again_left (is_unary x) x))
+
+  pub again_expression : Again (suc n) (IsExpression src SE SD) (expression src E D) (Off (expr_on at.Expression))
+  unfolding expression expr_on level_on binary_operators
+  again_expression = again_seq again_assignment
+      (λ x. clear_grown comma_node x (clear_starts (comma ∷ []) (expr_on at.Assignment) (starts_comma (IsAssignment src SE SD)) refl) (off_within (expr_on at.Assignment) (expr_on at.Expression) refl))
+      (λ x. again_repeat (comma ∷ []) (expr_on at.Assignment) (expr_on at.Expression) comma_node (again_behind (λ _. again_assignment)) (starts_comma (IsAssignment src SE SD)) refl refl refl refl x)
+
+  pub again_expr_line : (start : Start) → Again (suc n) (IsExprLine src SE SD start) (expr_line src E D start) (Off (expr_on start))
+  unfolding expr_on
+  again_expr_line at.Expression = again_expression
+  again_expr_line at.Assignment = again_assignment
+  again_expr_line at.Conditional = again_conditional
+  again_expr_line at.Cast = again_cast
+  again_expr_line at.Unary = again_unary

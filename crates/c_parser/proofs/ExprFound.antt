@@ -33,7 +33,7 @@ use Rattle.c_parser.proofs.Past.{past_seq, past_first, past_other, past_this, st
 use Rattle.c_parser.proofs.Starts.{Starts, starts_filled, starts_one, starts_sign, starts_sequence}
 use Rattle.c_parser.proofs.Short.{reads_seq, reads_after, reads_map, reads_if, reads_swap, reads_repeat, reads_one, reads_sign, heads_begins, of}
 use Rattle.c_parser.proofs.Words.{reads_specifiers, reads_pointers, reads_listed, reads_in_parens, starts_comma}
-use Rattle.c_parser.proofs.Unary.{unary_of_conditional, same_word}
+use Rattle.c_parser.proofs.Unary.{unary_of_conditional, same_word, behind_left}
 use Rattle.c_parser.proofs.ExprStarts.{expr_starts, primary_starts, starts_suffix, starts_bare, starts_named, starts_nested, starts_core, on_line, filled_line, moved, starts_part, starts_unary, starts_typed, starts_cast, starts_level, starts_conditional, starts_in_parens, starts_type_name, starts_primary}
 
 module _ (src : Bytes) (n : ℕ) (SE : Start → Spelling Expr) (SD : Naming → Spelling Declarator) (E : Start → Reader Expr) (D : Naming → Reader Declarator)
@@ -272,26 +272,21 @@ module _ (src : Bytes) (n : ℕ) (SE : Start → Spelling Expr) (SD : Naming →
   unfolding assigned
   reads_assigned x = reads_after (reads_sign (suc n) assignment_operators (Punct 34) _ refl) (λ p. reads_seq (he at.Assignment) (λ y. reads_is n (assign_node x p.0 p.1 y)))
 
-  -- what stands behind a conditional expression, where it may be a left side
-  abbrev behind_left : Bool → Expr → Spelling Expr
-  behind_left true x = IsAssigned src SE SD x or Is x
-  behind_left false x = Is x
-
   heads_left : (b : Bool) → Heads (λ w. b && begins (kinds assignment_operators) w)
   heads_left b r s alike = ap (λ v. b && v) (begins_alike (kinds assignment_operators) r s alike)
 
-  reads_left : (b : Bool) (x : Expr) → Reads (suc n) (behind_left b x) (choose (λ w. b && begins (kinds assignment_operators) w) (assigned src E D x) (pure x))
+  reads_left : (b : Bool) (x : Expr) → Reads (suc n) (behind_left src SE SD b x) (choose (λ w. b && begins (kinds assignment_operators) w) (assigned src E D x) (pure x))
   reads_left true x = reads_choose (suc n) (λ w. true && begins (kinds assignment_operators) w) (IsAssigned src SE SD x) (Is x) (assigned src E D x) (pure x) (reads_assigned x) (reads_is (suc n) x) (heads_left true)
   reads_left false x = reads_is (suc n) x
 
-  left_assignment : (b : Bool) (x y : Expr) (front back w : List Token) → is_unary x ≡ b → w ≡ front ++ back → IsConditional src SE SD x front → behind_left b x y back → IsAssignment src SE SD y w
+  left_assignment : (b : Bool) (x y : Expr) (front back w : List Token) → is_unary x ≡ b → w ≡ front ++ back → IsConditional src SE SD x front → behind_left src SE SD b x y back → IsAssignment src SE SD y w
   left_assignment true x y front back w u e h (inl a) = inr (record { of = x; front = front; back = back; parts = e; first = unary_of_conditional src SE SD x front h u; second = a })
   left_assignment true x y front back w u e h (inr i) = inl (same_word (IsConditional src SE SD) y x w front back i.0 e i.1 h)
   left_assignment false x y front back w u e h i = inl (same_word (IsConditional src SE SD) y x w front back i.0 e i.1 h)
 
   pub reads_assignment : Reads (suc n) (IsAssignment src SE SD) (assignment src E D)
   unfolding assignment
-  reads_assignment = reads_wider (suc n) (Sequence (IsConditional src SE SD) (λ x. behind_left (is_unary x) x)) (IsAssignment src SE SD) (assignment src E D)
+  reads_assignment = reads_wider (suc n) (Sequence (IsConditional src SE SD) (λ x. behind_left src SE SD (is_unary x) x)) (IsAssignment src SE SD) (assignment src E D)
       (λ y w h. left_assignment (is_unary h.of) h.of y h.front h.back w refl h.parts h.first h.second)
       (reads_seq reads_conditional (λ x. reads_left (is_unary x) x))
 

@@ -12,3 +12,4 @@ pub mod Past
 pub mod ExprFound
 pub mod FoundAt
 pub mod ExprAgain
+pub mod AgainAt
