@@ -64,7 +64,7 @@ pub record AgainAt (src : Bytes) (depth n : ℕ) : Type 0 where
   pub declarator : (naming : Naming) → Again n (DeclaratorAt src depth naming) (declarator_at src n naming) (Off declarator_on)
 
 -- no tokens spell nothing
-nothing : {A : Type 0} {S : Spelling A} {R : Reader A} {P : List Token → Type 0} → ((x : A) (w : List Token) → S x w → 0 < length w) → Again 0 S R P
+pub nothing : {A : Type 0} {S : Spelling A} {R : Reader A} {P : List Token → Type 0} → ((x : A) (w : List Token) → S x w → 0 < length w) → Again 0 S R P
 nothing filled = record { read = λ x f rest h few p. (let full = filled x f h in absurd (omega (arith, full, few))) }
 
 pub again_at : (src : Bytes) (depth n : ℕ) → AgainAt src depth n

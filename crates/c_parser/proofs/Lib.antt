@@ -13,3 +13,4 @@ pub mod ExprFound
 pub mod FoundAt
 pub mod ExprAgain
 pub mod AgainAt
+pub mod Declarations
