@@ -14,3 +14,4 @@ pub mod FoundAt
 pub mod ExprAgain
 pub mod AgainAt
 pub mod Declarations
+pub mod Statements
