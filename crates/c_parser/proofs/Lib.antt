@@ -15,3 +15,4 @@ pub mod ExprAgain
 pub mod AgainAt
 pub mod Declarations
 pub mod Statements
+pub mod StatementsAgain
