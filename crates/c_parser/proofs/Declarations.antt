@@ -128,7 +128,7 @@ module _ (src : Bytes) where
     abbrev pub item_on : List ℕ
     item_on = equals ∷ declarator_on ++ initializer_on
 
-    starts_given : Starts (equals ∷ []) (Sequence (IsGiven src) (λ x. Is (Some x)))
+    pub starts_given : Starts (equals ∷ []) (Sequence (IsGiven src) (λ x. Is (Some x)))
     starts_given = starts_sequence (equals ∷ []) (IsGiven src) (starts_sequence (equals ∷ []) (One equals) (starts_one equals) _) _
 
     pub reads_given : Reads n (Maybe (IsGiven src)) (given E D n)
@@ -172,10 +172,10 @@ module _ (src : Bytes) where
         (λ items. clear_one semicolon (comma ∷ item_on) _ refl) (λ items. again_behind (λ _. again_is n items))
 
     -- the same declaration, with its parts put together from the left
-    abbrev FromLeft : Spelling Declaration
+    abbrev pub FromLeft : Spelling Declaration
     FromLeft = Sequence IsSpecifiers (λ ss. Sequence (IsItem src) (λ first. Sequence (IsFurther (first ∷ [])) (λ items. Is (declaration_node ss items))))
 
-    to_left : (x : Declaration) (w : List Token) → IsDeclaration src x w → FromLeft x w
+    pub to_left : (x : Declaration) (w : List Token) → IsDeclaration src x w → FromLeft x w
     to_left x w h =
         let listed_part = h.second in
         record { of = h.of; front = h.front; back = h.back; parts = h.parts; first = h.first;
@@ -188,7 +188,7 @@ module _ (src : Bytes) where
                 second = record { of = listed_part.second.of; front = listed_part.second.front; back = []; parts = sym (append-nil listed_part.second.front); first = listed_part.second.first; second = (refl, refl) } };
               second = listed_part.second.second } } }
 
-    from_left : (x : Declaration) (w : List Token) → FromLeft x w → IsDeclaration src x w
+    pub from_left : (x : Declaration) (w : List Token) → FromLeft x w → IsDeclaration src x w
     from_left x w h =
         let one_item = h.second in
         let more = one_item.second in

@@ -16,3 +16,4 @@ pub mod AgainAt
 pub mod Declarations
 pub mod Statements
 pub mod StatementsAgain
+pub mod UnitLaws

@@ -1,3 +1,4 @@
+use Rattle.c_parser.proofs.UnitLaws
 use Rattle.c_parser.proofs.StatementsAgain
 use Rattle.c_parser.proofs.Statements
 use Rattle.c_parser.proofs.Declarations
