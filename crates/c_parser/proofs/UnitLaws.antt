@@ -20,7 +20,7 @@ use Rattle.c_parser.specs.StatementNodes.{item_node, declaration_node}
 use Rattle.c_parser.specs.Spelling.{Spelling, One, Is, Sequence, Further, Listed, Maybe, ◌or◌, push}
 use Rattle.c_parser.specs.Grammar.{IsSpecifiers, ExprAt, DeclaratorAt}
 use Rattle.c_parser.specs.Units.{AnyExpr, AnyDeclarator, IsInitializerLine, InitializerAt, IsInitializer, IsGiven, IsItem, IsDeclaration}
-use Rattle.c_parser.specs.Reading.{Reader, begins, and_then, one, pure, stop, choose, grown, listed, behind_comma, specifiers, expr_at, declarator_at}
+use Rattle.c_parser.specs.Reading.{Reader, grown_from, begins, and_then, one, pure, stop, choose, grown, listed, behind_comma, specifiers, expr_at, declarator_at}
 use Rattle.c_parser.specs.ReadingUnits.{initializer_list, initializer_line, initializer_at, given, item, further_items, declaration}
 use Rattle.c_parser.proofs.Sound.{Reads, reads_is, reads_wider, reads_equal}
 use Rattle.c_parser.proofs.Repeat.{Filled}
@@ -227,3 +227,33 @@ unit_found src w u rest m e =
     let one = (reads_externals src m).found w p.0.0 p.0.1 p.1 in
     let end = ended_ok (unit_node p.0.0) u p.0.1 rest p.2 in
     (record { of = p.0.0; front = one.front; back = []; parts = one.parts ∙ ap (λ v. one.front ++ v) end.1; first = one.by; second = (end.0, refl) }, end.2)
+
+-- ---- with as much depth as there are tokens
+
+nothing_read : (src : Bytes) → unit_of src [] ≡ Ok (unit_node [], [])
+unfolding unit_of unit grown_from
+nothing_read src = refl
+
+nothing_at_one : (src : Bytes) → unit (expr_at src 1) (declarator_at src 1) 1 [] ≡ Ok (unit_node [], [])
+unfolding unit grown_from
+nothing_at_one src = refl
+
+pub unit_of_derived : (src : Bytes) (w : List Token) (u : TheUnit) → Derives w src u → unit_of src w ≡ Ok (u, [])
+unfolding unit_of
+unit_of_derived src [] u h = nothing_read src ∙ (sym (nothing_at_one src) ∙ unit_again src [] u 0 (omega arith) h)
+unit_of_derived src (t ∷ w) u h = unit_again src (t ∷ w) u (length w) (omega arith) h
+
+empty_unit : (src : Bytes) → Derives [] src (unit_node [])
+empty_unit src = record { of = []; front = []; back = []; parts = refl; first = ([], refl, refl); second = (refl, refl) }
+
+pub unit_of_found : (src : Bytes) (w : List Token) (u : TheUnit) (rest : List Token) → unit_of src w ≡ Ok (u, rest) → Derives w src u × (rest ≡ [])
+unfolding unit_of
+unit_of_found src [] u rest e =
+    let p : (unit_node [], []) ≡ (u, rest) = ok_same (unit_node [], []) (u, rest) (sym (nothing_read src) ∙ e) in
+    (let P : TheUnit → Type 0 = λ v. Derives [] src v in subst P (ap (λ q. q.0) p) (empty_unit src), sym (ap (λ q. q.1) p))
+unit_of_found src (t ∷ w) u rest e = unit_found src (t ∷ w) u rest (length w) e
+
+pub one_unit_of : (src : Bytes) (w : List Token) (a b : TheUnit) → Derives w src a → Derives w src b → a ≡ b
+one_unit_of src w a b h k =
+    let both : Path (Result (TheUnit × List Token) ℕ) (Ok (a, [])) (Ok (b, [])) = sym (unit_of_derived src w a h) ∙ unit_of_derived src w b k in
+    ap (λ p. p.0) (ok_same (a, []) (b, []) both)

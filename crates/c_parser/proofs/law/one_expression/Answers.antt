@@ -1,9 +1,4 @@
-use Rattle.c_parser.proofs.UnitLaws
-use Rattle.c_parser.proofs.StatementsAgain
-use Rattle.c_parser.proofs.Statements
-use Rattle.c_parser.proofs.Declarations
 use Rattle.c_parser.proofs.AgainAt.{one_expression_of}
-use Rattle.c_parser.proofs.FoundAt
 use Rattle.c_parser.proofs.law.one_expression.Goals as goal
 
 pub returns : goal.returns
