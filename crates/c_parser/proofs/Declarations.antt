@@ -97,7 +97,7 @@ module _ (src : Bytes) where
         (reads_after (reads_one (suc d) open_brace (Punct 4) refl) (λ t. reads_seq (reads_listed h) (λ found. reads_seq (reads_one d close_brace (Punct 5) refl) (λ _. reads_is d _))))
         (reads_map i.Value (reads_fewer le (any_reads n at.Assignment))))
 
-    reads_initializer_at : (d : ℕ) → d ≤ n → Reads d (InitializerAt src (suc d)) (initializer_at E D d)
+    pub reads_initializer_at : (d : ℕ) → d ≤ n → Reads d (InitializerAt src (suc d)) (initializer_at E D d)
     unfolding InitializerAt initializer_at
     reads_initializer_at zero le = reads_stop (InitializerAt src 1) _ _ (sample_value (InitializerAt src 0))
     reads_initializer_at (suc d) le = reads_initializer_line d (InitializerAt src (suc d)) (initializer_at E D d) le (reads_initializer_at d (omega arith))

@@ -17,3 +17,7 @@ pub mod Declarations
 pub mod Statements
 pub mod StatementsAgain
 pub mod UnitLaws
+pub mod Enough
+pub mod EnoughExpr
+pub mod EnoughUnit
+pub mod RefusalLaws

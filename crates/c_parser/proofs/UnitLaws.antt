@@ -230,7 +230,7 @@ unit_found src w u rest m e =
 
 -- ---- with as much depth as there are tokens
 
-nothing_read : (src : Bytes) → unit_of src [] ≡ Ok (unit_node [], [])
+pub nothing_read : (src : Bytes) → unit_of src [] ≡ Ok (unit_node [], [])
 unfolding unit_of unit grown_from
 nothing_read src = refl
 
@@ -243,7 +243,7 @@ unfolding unit_of
 unit_of_derived src [] u h = nothing_read src ∙ (sym (nothing_at_one src) ∙ unit_again src [] u 0 (omega arith) h)
 unit_of_derived src (t ∷ w) u h = unit_again src (t ∷ w) u (length w) (omega arith) h
 
-empty_unit : (src : Bytes) → Derives [] src (unit_node [])
+pub empty_unit : (src : Bytes) → Derives [] src (unit_node [])
 empty_unit src = record { of = []; front = []; back = []; parts = refl; first = ([], refl, refl); second = (refl, refl) }
 
 pub unit_of_found : (src : Bytes) (w : List Token) (u : TheUnit) (rest : List Token) → unit_of src w ≡ Ok (u, rest) → Derives w src u × (rest ≡ [])
