@@ -4,3 +4,4 @@ pub mod Spelling
 pub mod Grammar
 pub mod Reading
 pub mod Outcome
+pub mod Parts
