@@ -1,3 +1,17 @@
 pub mod Tables
 pub mod Loops
 pub mod Leaves
+pub mod Alike
+pub mod Sound
+pub mod Repeat
+pub mod Peek
+pub mod Starts
+pub mod Again
+pub mod Short
+pub mod Words
+pub mod ExprStarts
+pub mod Unary
+pub mod Past
+pub mod ExprFound
+pub mod FoundAt
+pub mod ExprAgain

@@ -25,7 +25,7 @@ name_line src = name_node src <$> one name
 
 -- the bytes of texts behind bytes of the same node
 abbrev pub texts_behind : Bytes → Bytes → Reader Bytes
-texts_behind src before = grown (text ∷ []) (λ found t. found ++ text_of src t) (one text) before
+texts_behind src before = grown (begins (text ∷ [])) (λ found t. found ++ text_of src t) (one text) before
 
 -- `++` or `--` behind an expression
 abbrev pub step : Reader (Expr → Expr)

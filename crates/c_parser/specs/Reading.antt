@@ -2,7 +2,7 @@
 --
 -- A reader answers what it read and the tokens that are left, or how many tokens are left at the first that
 -- does not belong. The functions of the parser are these readers.
-use Rattle.std.specs.Prelude.{ℕ, zero, suc, Bool, true, false, not, ◌&&◌, if◌then◌else◌, List, [], ◌∷◌, ◌++◌, length, Option, Some, None, option_map, Result, Ok, Err}
+use Rattle.std.specs.Prelude.{ℕ, zero, suc, Bool, true, false, not, ◌&&◌, if◌then◌else◌, ◌==◌, List, [], ◌∷◌, ◌++◌, length, Option, Some, None, option_map, Result, Ok, Err}
 use Rattle.c_lexer.specs.declared.token.Token.{Token}
 use Rattle.c_tree.specs.declared.operator.BinaryOp.{BinaryOp}
 use Rattle.c_tree.specs.declared.operator.PrefixOp.{PrefixOp}
@@ -69,6 +69,11 @@ unfoldable pub token : {A : Type 0} → (Token → Option A) → Reader A
 token f [] = Err 0
 token f (t ∷ rest) = taken t rest (f t)
 
+-- there is a token, of another kind
+unfoldable pub until : ℕ → List Token → Bool
+until k [] = false
+until k (t ∷ rest) = not (code t == k)
+
 -- a token of a kind
 abbrev pub one : ℕ → Reader Token
 one k = token (of_kind k)
@@ -82,13 +87,13 @@ sign table = token (of_table table)
 abbrev pub choose : {A : Type 0} → (List Token → Bool) → Reader A → Reader A → Reader A
 choose test r q = λ w. (if test w then r else q) w
 
--- as long as the tokens begin with one of these kinds, what was read so far grows by what is read next
-unfoldable pub grown_from : {A B : Type 0} → List ℕ → (A → B → A) → Reader B → ℕ → A → Reader A
-grown_from ks grow r zero a = pure a
-grown_from ks grow r (suc turns) a = choose (begins ks) (r >>= (λ b. grown_from ks grow r turns (grow a b))) (pure a)
+-- as long as the test holds of the tokens, what was read so far grows by what is read next
+unfoldable pub grown_from : {A B : Type 0} → (List Token → Bool) → (A → B → A) → Reader B → ℕ → A → Reader A
+grown_from test grow r zero a = pure a
+grown_from test grow r (suc turns) a = choose test (r >>= (λ b. grown_from test grow r turns (grow a b))) (pure a)
 
-abbrev pub grown : {A B : Type 0} → List ℕ → (A → B → A) → Reader B → A → Reader A
-grown ks grow r a = λ w. grown_from ks grow r (length w) a w
+abbrev pub grown : {A B : Type 0} → (List Token → Bool) → (A → B → A) → Reader B → A → Reader A
+grown test grow r a = λ w. grown_from test grow r (length w) a w
 
 -- what one reads, behind a comma
 abbrev pub behind_comma : {A : Type 0} → Reader A → Reader A
@@ -96,7 +101,7 @@ behind_comma r = one comma >> r
 
 -- at least one, with commas between
 abbrev pub listed : {A : Type 0} → Reader A → Reader (List A)
-listed r = r >>= (λ x. grown (comma ∷ []) push (behind_comma r) (x ∷ []))
+listed r = r >>= (λ x. grown (begins (comma ∷ [])) push (behind_comma r) (x ∷ []))
 
 abbrev pub in_parens : {A : Type 0} → Reader A → Reader A
 in_parens r = do
@@ -111,15 +116,15 @@ unfoldable pub specifier : Reader Specifier
 specifier = (λ p. specifier_node p.0 p.1) <$> sign specifier_words
 
 unfoldable pub specifiers : Reader (List Specifier)
-specifiers = specifier >>= (λ first. grown specifier_starts push specifier (first ∷ []))
+specifiers = specifier >>= (λ first. grown (begins specifier_starts) push specifier (first ∷ []))
 
 unfoldable pub pointer : Reader Pointer
 pointer = do
   t ← one star
-  grown (kinds qualifiers) (λ p q. qualified p q.1) (sign qualifiers) (pointer_node t.line)
+  grown (begins (kinds qualifiers)) (λ p q. qualified p q.1) (sign qualifiers) (pointer_node t.line)
 
 unfoldable pub pointers : Reader (List Pointer)
-pointers = grown (star ∷ []) push pointer []
+pointers = grown (begins (star ∷ [])) push pointer []
 
 -- a `(` and behind it a type's name
 unfoldable pub begins_type : List Token → Bool
@@ -165,7 +170,7 @@ module _ (src : Bytes) (expr : Start → Reader Expr) (declarator : Naming → R
   suffix = choose (begins (open_bracket ∷ [])) array function
 
   unfoldable pub suffixes : List Suffix → Reader (List Suffix)
-  suffixes found = grown suffix_starts push suffix found
+  suffixes found = grown (begins suffix_starts) push suffix found
 
   -- what stands in the middle, with what stands behind it
   unfoldable pub named : Reader (Direct × List Suffix)
@@ -225,7 +230,7 @@ module _ (src : Bytes) (expr : Start → Reader Expr) (declarator : Naming → R
   unfoldable pub texts : Reader Expr
   texts = do
     first ← one text
-    bytes ← grown (text ∷ []) (λ found t. found ++ text_of src t) (one text) (text_of src first)
+    bytes ← grown (begins (text ∷ [])) (λ found t. found ++ text_of src t) (one text) (text_of src first)
     pure (text_node first bytes)
 
   unfoldable pub parenthesized : Reader Expr
@@ -269,7 +274,7 @@ module _ (src : Bytes) (expr : Start → Reader Expr) (declarator : Naming → R
       (choose (begins (open_paren ∷ [])) call ((λ p. postfix_node p.0 p.1) <$> sign postfix_operators))
 
   unfoldable pub postfix : Reader Expr
-  postfix = primary >>= grown postfix_starts (λ x part. part x) postfix_part
+  postfix = primary >>= grown (begins postfix_starts) (λ x part. part x) postfix_part
 
   unfoldable pub sizeof : Reader Expr
   sizeof = do
@@ -312,7 +317,7 @@ module _ (src : Bytes) (expr : Start → Reader Expr) (declarator : Naming → R
   -- operators of the levels below this number
   unfoldable pub level : ℕ → Reader Expr
   level zero = cast
-  level (suc n) = level n >>= grown (kinds (binary_operators n)) operated (operation (binary_operators n) (level n))
+  level (suc n) = level n >>= grown (begins (kinds (binary_operators n))) operated (operation (binary_operators n) (level n))
 
   unfoldable pub branches : Reader (Expr → Expr)
   branches = do
@@ -339,7 +344,7 @@ module _ (src : Bytes) (expr : Start → Reader Expr) (declarator : Naming → R
     choose (λ w. is_unary x && begins (kinds assignment_operators) w) (assigned x) (pure x)
 
   unfoldable pub expression : Reader Expr
-  expression = assignment >>= grown (comma ∷ []) comma_node (behind_comma assignment)
+  expression = assignment >>= grown (begins (comma ∷ [])) comma_node (behind_comma assignment)
 
   abbrev pub expr_line : Start → Reader Expr
   expr_line at.Expression = expression

@@ -49,6 +49,10 @@ infixr 9 ◌or◌
 abbrev pub ◌or◌ : {A : Type 0} → Spelling A → Spelling A → Spelling A
 (S or T) x w = S x w ⊎ T x w
 
+-- no tokens
+abbrev pub Never : {A : Type 0} → Spelling A
+Never x w = ⊥
+
 -- any number of values, one behind the other
 abbrev pub Many : {A : Type 0} → Spelling A → Spelling (List A)
 Many S [] w = w ≡ []

@@ -8,7 +8,9 @@ mod expression;
 mod fault;
 mod grammar;
 mod hub;
+mod law;
 mod leaf;
+mod refusal;
 mod start;
 #[cfg(test)]
 mod tests;
@@ -16,4 +18,6 @@ mod tokens;
 
 pub use fault::Fault;
 pub use hub::{declarator_at, expr_at};
+pub use law::one_expression;
+pub use refusal::ParseRefusal;
 pub use start::{Naming, Start};
