@@ -10,3 +10,5 @@ pub mod Reading
 pub mod ReadingUnits
 pub mod Outcome
 pub mod Parts
+pub mod UnitOutcome
+pub mod UnitParts

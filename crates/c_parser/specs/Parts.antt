@@ -7,9 +7,9 @@ use Rattle.c_tree.specs.declared.expression.Parameter.{Parameter}
 use Rattle.c_parser.specs.declared.start.Start.{Start}
 use Rattle.c_parser.specs.declared.start.Start.TheVariants as at
 use Rattle.c_parser.specs.declared.start.Naming.{Naming}
-use Rattle.c_parser.specs.Codes.{name, text, close_bracket, close_paren, postfix_operators}
+use Rattle.c_parser.specs.Codes.{kinds, binary_operators, name, text, close_bracket, close_paren, postfix_operators}
 use Rattle.c_parser.specs.Nodes.{Bytes, name_node, text_of, postfix_node, sizeof_expr_node, sizeof_type_node}
-use Rattle.c_parser.specs.Reading.{Reader, one, grown, sign, ◌>>=◌, ◌<$>◌, pure, choose, begins, then_begins, begins_type, in_parens, type_name, parameters, may_end, core_starts}
+use Rattle.c_parser.specs.Reading.{Reader, one, grown, sign, ◌>>=◌, ◌<$>◌, pure, choose, begins, then_begins, begins_type, in_parens, type_name, parameters, may_end, core_starts, level, operated, operation}
 
 -- the tokens behind the first one
 abbrev pub behind : List Token → List Token
@@ -51,3 +51,7 @@ module _ (src : Bytes) (expr : Start → Reader Expr) (declarator : Naming → R
   -- a declarator ends behind pointers and before these tokens
   abbrev pub ends : Naming → List Token → Bool
   ends naming w = may_end src expr declarator naming && not (begins (core_starts src expr declarator naming) w)
+
+  -- the operators of a level with their right operands behind a left operand, with it
+  abbrev pub operations : ℕ → Expr → Reader Expr
+  operations n left = grown (begins (kinds (binary_operators n))) (operated src expr declarator) (operation src expr declarator (binary_operators n) (level src expr declarator n)) left

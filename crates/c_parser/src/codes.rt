@@ -11,7 +11,7 @@ use srmt_base::Op;
 pub type Table<A> = &'static [(u16, A)];
 
 const KEYWORD: u16 = 256;
-const PUNCT: u16 = 512;
+pub const PUNCT: u16 = 512;
 
 pub const NAME: u16 = 0;
 const NUMBER: u16 = 1;
@@ -181,4 +181,28 @@ pub const PARAMETER_STARTS: [u16; 12] = [
     KEYWORD + 17,
     KEYWORD + 23,
     KEYWORD + 30,
+];
+
+/// The keywords that the grammar has.
+pub const GRAMMAR_WORDS: [u16; 20] = [
+    KEYWORD + 25,
+    KEYWORD + 11,
+    KEYWORD + 4,
+    KEYWORD + 32,
+    KEYWORD + 31,
+    KEYWORD + 37,
+    KEYWORD + 3,
+    KEYWORD + 22,
+    KEYWORD + 17,
+    KEYWORD + 23,
+    KEYWORD + 30,
+    SIZEOF,
+    IF,
+    ELSE,
+    WHILE,
+    DO,
+    FOR,
+    RETURN,
+    BREAK,
+    CONTINUE,
 ];

@@ -99,7 +99,7 @@ fn pointers(alloc: Global, tokens: &[Token]) -> Read<'_, Items<Pointer>>
 }
 
 /// The line of the first of some specifiers.
-fn first_line(specifiers: &Items<Specifier>) -> u32
+pub fn first_line(specifiers: &Items<Specifier>) -> u32
     ensures { result ≡ nodes.first_line specifiers.now }
 {
     match specifiers.as_slice() {

@@ -407,24 +407,38 @@ where
         }
     }
 
-    /// Operands with the operators of the levels below a number between them (C11 6.5.5 to 6.5.14).
-    #[tactic(auto, unfolding(crate::specs::Reading::level, crate::specs::Reading::grown_from, crate::specs::Nodes::at_line, crate::specs::Nodes::line_of))]
-    fn level<'t>(&self, levels: u8, tokens: &'t [Token]) -> Read<'t, Expr>
+    /// The operators of a level with their right operands behind a left operand, with it.
+    #[cycle(level)]
+    #[tactic(auto, unfolding(crate::specs::Reading::grown_from))]
+    fn operations<'t>(&self, level: u8, left: Expr, tokens: &'t [Token]) -> Read<'t, Expr>
         requires { Leads E.Fn D.Fn self.now.expr self.now.declarator self.now.src.now self.now.depth }
-        ensures { Gives seen result (at_depth reading.level self.now.src.now self.now.depth levels tokens.now) }
+        ensures { Gives seen result (at_depth parts.operations self.now.src.now self.now.depth level left tokens.now) }
     {
-        if levels == 0 {
-            return self.cast(tokens);
-        }
-        let table = binary_operators(levels - 1);
-        let (mut left, mut rest) = self.level(levels - 1, tokens)?;
-        for _turn in 0..rest.len() {
+        let table = binary_operators(level);
+        let mut left = left;
+        let mut rest = tokens;
+        for _turn in 0..tokens.len() {
             if !begins_in(table, rest) {
                 break;
             }
             let ((line, op), behind) = sign(table, rest)?;
-            let (right, more) = self.level(levels - 1, behind)?;
+            let (right, more) = self.level(level, behind)?;
             left = binary_node(self.alloc, left, line, op, right)?;
+            rest = more;
+        }
+        Ok((left, rest))
+    }
+
+    /// Operands with the operators of the levels below a number between them (C11 6.5.5 to 6.5.14).
+    #[cycle(level)]
+    fn level<'t>(&self, levels: u8, tokens: &'t [Token]) -> Read<'t, Expr>
+        requires { Leads E.Fn D.Fn self.now.expr self.now.declarator self.now.src.now self.now.depth }
+        ensures { Gives seen result (at_depth reading.level self.now.src.now self.now.depth levels tokens.now) }
+    {
+        let (mut left, mut rest) = self.cast(tokens)?;
+        for level in 0..levels {
+            let (longer, more) = self.operations(level, left, rest)?;
+            left = longer;
             rest = more;
         }
         Ok((left, rest))
