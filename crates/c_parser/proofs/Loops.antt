@@ -27,13 +27,17 @@ module _ {A B : Type 0} (test : List Token → Bool) (grow : A → B → A) (r :
   pub grown_turn : (end turn : ℕ) (a next : A) (w : List Token) (b : B) (rest : List Token) → turn < end → test w ≡ true → r w ≡ Ok (b, rest) → next ≡ grow a b → grown_from test grow r (end - (turn + 1)) next rest ≡ grown_from test grow r (end - turn) a w
   grown_turn end turn a next w b rest l s e is = ap (λ x. grown_from test grow r (end - (turn + 1)) x rest) is ∙ grown_step end turn a w b rest l s e
 
+abbrev value_or : Expr × List Token → Result (Expr × List Token) ℕ → Expr × List Token
+value_or d (Ok p) = p
+value_or d (Err n) = d
+
 -- The parts behind an expression, each of which makes a longer one of it.
 longer : (r : Reader (Expr → Expr)) (left next : Expr) (w rest : List Token) (found : Result ((Expr → Expr) × List Token) ℕ) → r w ≡ found → applied r left w ≡ Ok (next, rest)
     → (part : Expr → Expr) × (r w ≡ Ok (part, rest)) × (next ≡ part left)
 longer r left next w rest (Ok p) e h =
     let k = rw e at h in
-    let behind : p.1 ≡ rest = cc in
-    (p.0, e ∙ ap (λ v. Ok (p.0, v)) behind, (cc))
+    let same : (p.0 left, p.1) ≡ (next, rest) = ap (value_or (next, rest)) k in
+    (p.0, e ∙ ap (λ (v : List Token). Ok (p.0, v)) (ap (λ (q : Expr × List Token). q.1) same), sym (ap (λ (q : Expr × List Token). q.0) same))
 longer r left next w rest (Err n) e h = let k = rw e at h in cc
 
 pub longer_turn : (test : List Token → Bool) (r : Reader (Expr → Expr)) (end turn : ℕ) (left next : Expr) (w rest : List Token) → turn < end → test w ≡ true → applied r left w ≡ Ok (next, rest)
