@@ -33,8 +33,8 @@ use Rattle.c_parser.proofs.Past.{past_seq, past_first, past_other, past_this, st
 use Rattle.c_parser.proofs.Starts.{Starts, starts_filled, starts_one, starts_sign, starts_sequence}
 use Rattle.c_parser.proofs.Short.{reads_seq, reads_after, reads_map, reads_if, reads_swap, reads_repeat, reads_one, reads_sign, heads_begins, of}
 use Rattle.c_parser.proofs.Words.{reads_specifiers, reads_pointers, reads_listed, reads_in_parens, starts_comma}
-use Rattle.c_parser.proofs.Unary.{unary_of_conditional, same_word}
-use Rattle.c_parser.proofs.ExprStarts.{expr_starts, primary_starts, starts_suffix, starts_bare, starts_named, starts_nested, starts_core, starts_declarator_line, starts_part, starts_unary, starts_typed, starts_cast, starts_level, starts_conditional, starts_in_parens, starts_type_name, starts_primary}
+use Rattle.c_parser.proofs.Unary.{unary_of_conditional, same_word, behind_left}
+use Rattle.c_parser.proofs.ExprStarts.{expr_starts, primary_starts, starts_suffix, starts_bare, starts_named, starts_nested, starts_core, on_line, filled_line, moved, starts_part, starts_unary, starts_typed, starts_cast, starts_level, starts_conditional, starts_in_parens, starts_type_name, starts_primary}
 
 module _ (src : Bytes) (n : ℕ) (SE : Start → Spelling Expr) (SD : Naming → Spelling Declarator) (E : Start → Reader Expr) (D : Naming → Reader Declarator)
     (he : (start : Start) → Reads n (SE start) (E start)) (hd : (naming : Naming) → Reads n (SD naming) (D naming))
@@ -124,22 +124,11 @@ module _ (src : Bytes) (n : ℕ) (SE : Start → Spelling Expr) (SD : Naming →
   reads_behind naming [] = reads_wider (suc n) (IsCore src SE SD naming) (IsCore src SE SD naming or IsPointerAlone src SE SD naming []) (core src E D naming) (λ x w h. inl h) (reads_core naming)
   reads_behind naming (p ∷ ps) = reads_end naming p ps
 
-  abbrev on_line : Naming → ℕ → Spelling Declarator
-  on_line naming line = Sequence IsPointers (λ ps. Sequence (IsCore src SE SD naming or IsPointerAlone src SE SD naming ps) (λ found. Is (declarator_node line ps found.0 found.1)))
-
-  moved : (naming : Naming) (l k : ℕ) (x : Declarator) (w : List Token) → on_line naming l x w → (y : Declarator) × on_line naming k y w
-  moved naming l k x w h =
-      (declarator_node k h.of h.second.of.0 h.second.of.1, record { of = h.of; front = h.front; back = h.back; parts = h.parts; first = h.first;
-          second = record { of = h.second.of; front = h.second.front; back = h.second.back; parts = h.second.parts; first = h.second.first; second = (refl, h.second.second.1) } })
-
-  filled_line : (naming : Naming) (line : ℕ) → Filled (on_line naming line)
-  filled_line naming line x w h = let y = moved naming line (line_at w) x w h in starts_filled declarator_starts (IsDeclaratorLine src SE SD naming) (starts_declarator_line src SE SD naming) y.0 w y.1
-
   pub reads_declarator_line : (naming : Naming) → Reads (suc n) (IsDeclaratorLine src SE SD naming) (declarator_line src E D naming)
   unfolding declarator_line
-  reads_declarator_line naming = reads_located (suc n) (on_line naming)
+  reads_declarator_line naming = reads_located (suc n) (on_line src SE SD naming)
       (λ line w. and_then (pointers w) (λ ps v. and_then (core_behind src E D naming ps v) (λ found. pure (declarator_node line ps found.0 found.1))))
-      (λ line. reads_seq (reads_pointers (suc n)) (λ ps. reads_seq (reads_behind naming ps) (λ found. reads_is (suc n) (declarator_node line ps found.0 found.1)))) (filled_line naming) (moved naming)
+      (λ line. reads_seq (reads_pointers (suc n)) (λ ps. reads_seq (reads_behind naming ps) (λ found. reads_is (suc n) (declarator_node line ps found.0 found.1)))) (filled_line src SE SD naming) (moved src SE SD naming)
 
   pub reads_type_name : Reads n (IsTypeName src SE SD) (type_name src E D)
   unfolding type_name
@@ -283,26 +272,21 @@ module _ (src : Bytes) (n : ℕ) (SE : Start → Spelling Expr) (SD : Naming →
   unfolding assigned
   reads_assigned x = reads_after (reads_sign (suc n) assignment_operators (Punct 34) _ refl) (λ p. reads_seq (he at.Assignment) (λ y. reads_is n (assign_node x p.0 p.1 y)))
 
-  -- what stands behind a conditional expression, where it may be a left side
-  abbrev behind_left : Bool → Expr → Spelling Expr
-  behind_left true x = IsAssigned src SE SD x or Is x
-  behind_left false x = Is x
-
   heads_left : (b : Bool) → Heads (λ w. b && begins (kinds assignment_operators) w)
   heads_left b r s alike = ap (λ v. b && v) (begins_alike (kinds assignment_operators) r s alike)
 
-  reads_left : (b : Bool) (x : Expr) → Reads (suc n) (behind_left b x) (choose (λ w. b && begins (kinds assignment_operators) w) (assigned src E D x) (pure x))
+  reads_left : (b : Bool) (x : Expr) → Reads (suc n) (behind_left src SE SD b x) (choose (λ w. b && begins (kinds assignment_operators) w) (assigned src E D x) (pure x))
   reads_left true x = reads_choose (suc n) (λ w. true && begins (kinds assignment_operators) w) (IsAssigned src SE SD x) (Is x) (assigned src E D x) (pure x) (reads_assigned x) (reads_is (suc n) x) (heads_left true)
   reads_left false x = reads_is (suc n) x
 
-  left_assignment : (b : Bool) (x y : Expr) (front back w : List Token) → is_unary x ≡ b → w ≡ front ++ back → IsConditional src SE SD x front → behind_left b x y back → IsAssignment src SE SD y w
+  left_assignment : (b : Bool) (x y : Expr) (front back w : List Token) → is_unary x ≡ b → w ≡ front ++ back → IsConditional src SE SD x front → behind_left src SE SD b x y back → IsAssignment src SE SD y w
   left_assignment true x y front back w u e h (inl a) = inr (record { of = x; front = front; back = back; parts = e; first = unary_of_conditional src SE SD x front h u; second = a })
   left_assignment true x y front back w u e h (inr i) = inl (same_word (IsConditional src SE SD) y x w front back i.0 e i.1 h)
   left_assignment false x y front back w u e h i = inl (same_word (IsConditional src SE SD) y x w front back i.0 e i.1 h)
 
   pub reads_assignment : Reads (suc n) (IsAssignment src SE SD) (assignment src E D)
   unfolding assignment
-  reads_assignment = reads_wider (suc n) (Sequence (IsConditional src SE SD) (λ x. behind_left (is_unary x) x)) (IsAssignment src SE SD) (assignment src E D)
+  reads_assignment = reads_wider (suc n) (Sequence (IsConditional src SE SD) (λ x. behind_left src SE SD (is_unary x) x)) (IsAssignment src SE SD) (assignment src E D)
       (λ y w h. left_assignment (is_unary h.of) h.of y h.front h.back w refl h.parts h.first h.second)
       (reads_seq reads_conditional (λ x. reads_left (is_unary x) x))
 

@@ -17,8 +17,9 @@ use Rattle.c_parser.specs.declared.start.Naming.{Naming}
 use Rattle.c_parser.specs.declared.start.Naming.TheVariants as n
 use Rattle.c_parser.specs.Codes.{Table, code, code_of, one_of, kinds, name, number, character, text, open_bracket, open_paren, star, sizeof_word, step_operators, unary_operators, postfix_operators, specifier_starts, postfix_starts, suffix_starts, declarator_starts, binary_operators, levels}
 use Rattle.c_parser.specs.Spelling.{Spelling, Means, One, Sign, Is, Sequence, Many, Grown, Further, Some_of, Listed, Maybe, In_parens, Located, ◌or◌, line_at}
-use Rattle.c_parser.specs.Nodes.{Bytes, constant_node, at_line}
+use Rattle.c_parser.specs.Nodes.{Bytes, constant_node, at_line, declarator_node}
 use Rattle.c_parser.specs.Grammar.{IsSpecifiers, IsPointer, IsPointers, IsArray, IsParameter, IsFunction, IsSuffix, IsNamed, IsNested, IsBare, IsCore, IsPointerAlone, IsDeclaratorLine, IsTypeName, IsName, IsConstant, IsTexts, IsParenthesized, IsPrimary, IsIndex, IsCall, IsStep, IsPostfix, IsSizeof, IsPrefix, IsUnary, IsTyped, IsCast, IsOperation, IsLevel, IsConditional, IsAssigned, IsAssignment, IsExpression, IsExprLine, ExprAt, DeclaratorAt}
+use Rattle.c_parser.proofs.Repeat.{Filled}
 use Rattle.c_parser.proofs.Starts.{Opens, Starts, within, starts_filled, starts_wider, starts_sequence, starts_either, starts_one, starts_sign}
 use Rattle.c_parser.proofs.Words.{starts_specifiers, starts_pointer}
 
@@ -102,6 +103,17 @@ module _ (src : Bytes) (SE : Start → Spelling Expr) (SD : Naming → Spelling 
   starts_declarator_line naming x w h =
       let r = behind_pointers naming h.first.0 h.of h.front h.second.front h.second.of h.first.1 h.first.2 h.second.first in
       record { first = r.first; rest = r.rest ++ h.second.back; parts = h.parts ∙ (ap (λ v. h.front ++ v) h.second.parts ∙ (sym (append_assoc h.front h.second.front h.second.back) ∙ ap (λ v. v ++ h.second.back) r.parts)); kind = r.kind }
+
+  abbrev pub on_line : Naming → ℕ → Spelling Declarator
+  on_line naming line = Sequence IsPointers (λ ps. Sequence (IsCore src SE SD naming or IsPointerAlone src SE SD naming ps) (λ found. Is (declarator_node line ps found.0 found.1)))
+
+  pub moved : (naming : Naming) (l k : ℕ) (x : Declarator) (w : List Token) → on_line naming l x w → (y : Declarator) × on_line naming k y w
+  moved naming l k x w h =
+      (declarator_node k h.of h.second.of.0 h.second.of.1, record { of = h.of; front = h.front; back = h.back; parts = h.parts; first = h.first;
+          second = record { of = h.second.of; front = h.second.front; back = h.second.back; parts = h.second.parts; first = h.second.first; second = (refl, h.second.second.1) } })
+
+  pub filled_line : (naming : Naming) (line : ℕ) → Filled (on_line naming line)
+  filled_line naming line x w h = let y = moved naming line (line_at w) x w h in starts_filled declarator_starts (IsDeclaratorLine src SE SD naming) (starts_declarator_line naming) y.0 w y.1
 
   -- ---- expressions
 

@@ -41,10 +41,10 @@ reads_stop {A = A} S x word sample = record {
 -- ---- samples
 
 module _ (src : Bytes) (SE : Start → Spelling Expr) (SD : Naming → Spelling Declarator) where
-  abbrev a_name : Expr
+  abbrev pub a_name : Expr
   a_name = name_node src (of Name)
 
-  abbrev name_word : List Token
+  abbrev pub name_word : List Token
   name_word = of Name ∷ []
 
   sample_unary : IsUnary src SE SD a_name name_word
@@ -54,7 +54,7 @@ module _ (src : Bytes) (SE : Start → Spelling Expr) (SD : Naming → Spelling 
   sample_assignment : IsAssignment src SE SD a_name name_word
   sample_assignment = inl (conditional_of_unary src SE SD a_name name_word sample_unary)
 
-  sample_expr : (start : Start) → IsExprLine src SE SD start a_name name_word
+  pub sample_expr : (start : Start) → IsExprLine src SE SD start a_name name_word
   sample_expr at.Expression = record { of = a_name; front = name_word; back = []; parts = refl; first = sample_assignment; second = ([], refl, refl) }
   sample_expr at.Assignment = sample_assignment
   sample_expr at.Conditional = conditional_of_unary src SE SD a_name name_word sample_unary

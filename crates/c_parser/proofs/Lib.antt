@@ -15,3 +15,8 @@ pub mod Past
 pub mod ExprFound
 pub mod FoundAt
 pub mod ExprAgain
+pub mod AgainAt
+pub mod Declarations
+pub mod Statements
+pub mod StatementsAgain
+pub mod UnitLaws

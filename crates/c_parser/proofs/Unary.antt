@@ -163,3 +163,8 @@ module _ (src : Bytes) (SE : Start → Spelling Expr) (SD : Naming → Spelling 
   unary_of_conditional x w h u = elim h.second [
       inl b ↦ absurd (not_both x u (ap is_unary b.second.0 ∙ (ap (λ f. is_unary (f h.of)) b.first.second.second.second.second.0 ∙ conditional_other h.of b.first.of.line b.first.second.of b.first.second.second.second.of)))
     | inr i ↦ same_word (IsUnary src SE SD) x h.of w h.front h.back i.0 h.parts i.1 (unary_of_level levels h.of h.front h.first (sym (ap is_unary i.0) ∙ u)) ]
+
+  -- what stands behind a conditional expression, where it may be a left side
+  abbrev pub behind_left : Bool → Expr → Spelling Expr
+  behind_left true x = IsAssigned src SE SD x or Is x
+  behind_left false x = Is x

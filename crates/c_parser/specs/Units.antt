@@ -86,15 +86,18 @@ module _ (src : Bytes) where
       u ← One close_brace
       Is (block_node t.line items u.line)
 
+    abbrev pub IsBlockStmt : Spelling Stmt
+    IsBlockStmt = block_stmt <$> IsBlock
+
     -- expression-statement
-    abbrev pub IsExprStmt : Spelling (Stmt × Bool)
+    abbrev pub IsExprStmt : Spelling Stmt
     IsExprStmt = do
       x ← AnyExpr src at.Expression
       One semicolon
-      Is (expr_stmt x, false)
+      Is (expr_stmt x)
 
-    abbrev pub IsEmptyStmt : Spelling (Stmt × Bool)
-    IsEmptyStmt = (λ t. (empty_stmt t.line, false)) <$> One semicolon
+    abbrev pub IsEmptyStmt : Spelling Stmt
+    IsEmptyStmt = (λ t. empty_stmt t.line) <$> One semicolon
 
     -- `else` and its branch, behind a branch to which it does not belong
     abbrev pub IsElse : Bool → Spelling (Option Stmt × Bool)
@@ -118,14 +121,14 @@ module _ (src : Bytes) where
       body ← IsStmt
       Is (while_stmt t.line x body.0, body.1)
 
-    abbrev pub IsDo : Spelling (Stmt × Bool)
+    abbrev pub IsDo : Spelling Stmt
     IsDo = do
       t ← One do_word
       body ← IsStmt
       One while_word
       x ← In_parens (AnyExpr src at.Expression)
       One semicolon
-      Is (do_stmt t.line body.0 x, false)
+      Is (do_stmt t.line body.0 x)
 
     abbrev pub IsOptional : Spelling (Option Expr)
     IsOptional = Maybe (AnyExpr src at.Expression)
@@ -149,28 +152,32 @@ module _ (src : Bytes) where
       Is (for_stmt t.line start x step body.0, body.1)
 
     -- jump-statement
-    abbrev pub IsContinue : Spelling (Stmt × Bool)
+    abbrev pub IsContinue : Spelling Stmt
     IsContinue = do
       t ← One continue_word
       One semicolon
-      Is (continue_stmt t.line, false)
+      Is (continue_stmt t.line)
 
-    abbrev pub IsBreak : Spelling (Stmt × Bool)
+    abbrev pub IsBreak : Spelling Stmt
     IsBreak = do
       t ← One break_word
       One semicolon
-      Is (break_stmt t.line, false)
+      Is (break_stmt t.line)
 
-    abbrev pub IsReturn : Spelling (Stmt × Bool)
+    abbrev pub IsReturn : Spelling Stmt
     IsReturn = do
       t ← One return_word
       x ← IsOptional
       One semicolon
-      Is (return_stmt t.line x, false)
+      Is (return_stmt t.line x)
+
+    -- a statement to which no `else` can belong
+    abbrev pub Closed : Spelling Stmt → Spelling (Stmt × Bool)
+    Closed S = (λ s. (s, false)) <$> S
 
     abbrev pub IsStmtLine : Spelling (Stmt × Bool)
     IsStmtLine =
-      ((λ block. (block_stmt block, false)) <$> IsBlock) or IsEmptyStmt or IsIf or IsWhile or IsDo or IsFor or IsReturn or IsBreak or IsContinue or IsExprStmt
+      Closed IsBlockStmt or Closed IsEmptyStmt or IsIf or IsWhile or Closed IsDo or IsFor or Closed IsReturn or Closed IsBreak or Closed IsContinue or Closed IsExprStmt
 
   unfoldable pub StmtAt : ℕ → Spelling (Stmt × Bool)
   StmtAt zero p w = ⊥

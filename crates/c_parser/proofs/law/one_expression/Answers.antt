@@ -1,15 +1,5 @@
-use Rattle.c_parser.proofs.ExprAgain
-use Rattle.c_parser.proofs.FoundAt
-use Rattle.c_parser.proofs.ExprFound
-use Rattle.c_parser.proofs.Unary
-use Rattle.c_parser.proofs.ExprStarts
-use Rattle.c_parser.proofs.Short
-use Rattle.c_parser.proofs.Again
-use Rattle.c_parser.proofs.Peek
-use Rattle.c_parser.proofs.Starts
-use Rattle.c_parser.proofs.Repeat
-use Rattle.c_parser.proofs.Sound
+use Rattle.c_parser.proofs.AgainAt.{one_expression_of}
 use Rattle.c_parser.proofs.law.one_expression.Goals as goal
 
 pub returns : goal.returns
-returns c = ?
+returns c = λ tokens src a b h k. one_expression_of src tokens a b h k
