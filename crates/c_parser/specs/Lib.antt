@@ -9,3 +9,6 @@ pub mod Refusals
 pub mod Reading
 pub mod ReadingUnits
 pub mod Outcome
+pub mod Parts
+pub mod UnitOutcome
+pub mod UnitParts

@@ -11,7 +11,7 @@ use srmt_base::Op;
 pub type Table<A> = &'static [(u16, A)];
 
 const KEYWORD: u16 = 256;
-const PUNCT: u16 = 512;
+pub const PUNCT: u16 = 512;
 
 pub const NAME: u16 = 0;
 const NUMBER: u16 = 1;
@@ -157,8 +157,52 @@ pub const POSTFIX_STARTS: [u16; 4] = [OPEN_BRACKET, OPEN_PAREN, PUNCT + 8, PUNCT
 /// What stands behind a declarator's name.
 pub const SUFFIX_STARTS: [u16; 2] = [OPEN_BRACKET, OPEN_PAREN];
 
+/// What stands in the middle of a declarator that may or may not have a name, behind its pointers.
+pub const NAMED_STARTS: [u16; 3] = [NAME, OPEN_BRACKET, OPEN_PAREN];
+
 /// What a declarator that may or may not have a name begins with.
 pub const DECLARATOR_STARTS: [u16; 4] = [STAR, OPEN_BRACKET, OPEN_PAREN, NAME];
 
 /// What a declarator that has no name begins with.
 pub const ABSTRACT_STARTS: [u16; 3] = [STAR, OPEN_BRACKET, OPEN_PAREN];
+
+/// What follows the `(` of a list of parameters, and of nothing else in a declarator: `)` and the words of
+/// specifiers.
+pub const PARAMETER_STARTS: [u16; 12] = [
+    CLOSE_PAREN,
+    KEYWORD + 25,
+    KEYWORD + 11,
+    KEYWORD + 4,
+    KEYWORD + 32,
+    KEYWORD + 31,
+    KEYWORD + 37,
+    KEYWORD + 3,
+    KEYWORD + 22,
+    KEYWORD + 17,
+    KEYWORD + 23,
+    KEYWORD + 30,
+];
+
+/// The keywords that the grammar has.
+pub const GRAMMAR_WORDS: [u16; 20] = [
+    KEYWORD + 25,
+    KEYWORD + 11,
+    KEYWORD + 4,
+    KEYWORD + 32,
+    KEYWORD + 31,
+    KEYWORD + 37,
+    KEYWORD + 3,
+    KEYWORD + 22,
+    KEYWORD + 17,
+    KEYWORD + 23,
+    KEYWORD + 30,
+    SIZEOF,
+    IF,
+    ELSE,
+    WHILE,
+    DO,
+    FOR,
+    RETURN,
+    BREAK,
+    CONTINUE,
+];

@@ -3,10 +3,11 @@
 ghost use Rattle.std.specs.Prelude.{◌≡◌, ◌++◌, length};
 ghost use Rattle.c_parser.specs.Reading as reading;
 ghost use Rattle.c_parser.specs.Nodes as nodes;
+ghost use Rattle.c_parser.specs.Parts as parts;
 ghost use Rattle.c_parser.specs.Outcome.{Gives, seen, at_depth, Leads};
 
 use crate::codes::{
-    ABSTRACT_STARTS, CLOSE_BRACKET, CLOSE_PAREN, COMMA, DECLARATOR_STARTS, NAME, OPEN_BRACKET, OPEN_PAREN,
+    ABSTRACT_STARTS, CLOSE_BRACKET, CLOSE_PAREN, COMMA, DECLARATOR_STARTS, NAME, NAMED_STARTS, OPEN_BRACKET, OPEN_PAREN,
     QUALIFIERS, SPECIFIER_WORDS, STAR, SUFFIX_STARTS,
 };
 use crate::fault::{Fault, Read};
@@ -20,6 +21,7 @@ use sqlite_items::{Boxed, Items};
 use std::alloc::Global;
 
 /// A word of specifiers.
+#[tactic(auto, unfolding(crate::specs::Reading::specifier))]
 fn specifier(tokens: &[Token]) -> Read<'_, Specifier>
     ensures { Gives seen result (reading.specifier tokens.now) }
 {
@@ -28,6 +30,7 @@ fn specifier(tokens: &[Token]) -> Read<'_, Specifier>
 }
 
 /// At least one word.
+#[tactic(auto, unfolding(crate::specs::Reading::specifiers, crate::specs::Reading::grown_from))]
 pub fn specifiers(alloc: Global, tokens: &[Token]) -> Read<'_, Items<Specifier>>
     ensures { Gives seen result (reading.specifiers tokens.now) }
 {
@@ -57,6 +60,7 @@ fn qualified(pointer: Pointer, is_const: bool) -> Pointer
 }
 
 /// A `*` with the qualifiers behind it.
+#[tactic(auto, unfolding(crate::specs::Reading::pointer, crate::specs::Reading::grown_from))]
 fn pointer(tokens: &[Token]) -> Read<'_, Pointer>
     ensures { Gives seen result (reading.pointer tokens.now) }
 {
@@ -77,6 +81,7 @@ fn pointer(tokens: &[Token]) -> Read<'_, Pointer>
     Ok((pointer, rest))
 }
 
+#[tactic(auto, unfolding(crate::specs::Reading::pointers, crate::specs::Reading::grown_from))]
 fn pointers(alloc: Global, tokens: &[Token]) -> Read<'_, Items<Pointer>>
     ensures { Gives seen result (reading.pointers tokens.now) }
 {
@@ -94,7 +99,7 @@ fn pointers(alloc: Global, tokens: &[Token]) -> Read<'_, Items<Pointer>>
 }
 
 /// The line of the first of some specifiers.
-fn first_line(specifiers: &Items<Specifier>) -> u32
+pub fn first_line(specifiers: &Items<Specifier>) -> u32
     ensures { result ≡ nodes.first_line specifiers.now }
 {
     match specifiers.as_slice() {
@@ -109,6 +114,7 @@ where
     D: Fn(Naming, &[Token]) -> Result<(Declarator, &[Token]), Fault>,
 {
     /// `[`, perhaps a length, and `]`.
+    #[tactic(auto, unfolding(crate::specs::Reading::array))]
     fn array<'t>(&self, tokens: &'t [Token]) -> Read<'t, Suffix>
         requires { Leads E.Fn D.Fn self.now.expr self.now.declarator self.now.src.now self.now.depth }
         ensures { Gives seen result (at_depth reading.array self.now.src.now self.now.depth tokens.now) }
@@ -122,7 +128,7 @@ where
     /// What stands between the brackets of an array.
     fn array_length<'t>(&self, tokens: &'t [Token]) -> Read<'t, Option<Boxed<Expr>>>
         requires { Leads E.Fn D.Fn self.now.expr self.now.declarator self.now.src.now self.now.depth }
-        ensures { Gives seen result (at_depth reading.array_length self.now.src.now self.now.depth tokens.now) }
+        ensures { Gives seen result (at_depth parts.array_length self.now.src.now self.now.depth tokens.now) }
     {
         if begins(&[CLOSE_BRACKET], tokens) {
             return Ok((None, tokens));
@@ -134,7 +140,7 @@ where
     /// The declarator of a parameter, if it has one.
     fn declared<'t>(&self, naming: Naming, starts: &[u16], tokens: &'t [Token]) -> Read<'t, Option<Boxed<Declarator>>>
         requires { Leads E.Fn D.Fn self.now.expr self.now.declarator self.now.src.now self.now.depth }
-        ensures { Gives seen result (at_depth reading.declared self.now.src.now self.now.depth naming starts.now tokens.now) }
+        ensures { Gives seen result (at_depth parts.declared self.now.src.now self.now.depth naming starts.now tokens.now) }
     {
         if !begins(starts, tokens) {
             return Ok((None, tokens));
@@ -143,6 +149,7 @@ where
         Ok((Some(Boxed::new(self.alloc, declarator)?), rest))
     }
 
+    #[tactic(auto, unfolding(crate::specs::Reading::parameter, crate::specs::Nodes::parameter_node))]
     fn parameter<'t>(&self, tokens: &'t [Token]) -> Read<'t, Parameter>
         requires { Leads E.Fn D.Fn self.now.expr self.now.declarator self.now.src.now self.now.depth }
         ensures { Gives seen result (at_depth reading.parameter self.now.src.now self.now.depth tokens.now) }
@@ -164,6 +171,7 @@ where
     }
 
     /// At least one parameter.
+    #[tactic(auto, unfolding(crate::specs::Reading::parameters, crate::specs::Reading::grown_from))]
     fn parameters<'t>(&self, tokens: &'t [Token]) -> Read<'t, Items<Parameter>>
         requires { Leads E.Fn D.Fn self.now.expr self.now.declarator self.now.src.now self.now.depth }
         ensures { Gives seen result (at_depth reading.parameters self.now.src.now self.now.depth tokens.now) }
@@ -185,7 +193,7 @@ where
     /// What stands between the parentheses of a function.
     fn parameter_list<'t>(&self, tokens: &'t [Token]) -> Read<'t, Items<Parameter>>
         requires { Leads E.Fn D.Fn self.now.expr self.now.declarator self.now.src.now self.now.depth }
-        ensures { Gives seen result (at_depth reading.parameter_list self.now.src.now self.now.depth tokens.now) }
+        ensures { Gives seen result (at_depth parts.parameter_list self.now.src.now self.now.depth tokens.now) }
     {
         if begins(&[CLOSE_PAREN], tokens) {
             return Ok((Items::new(self.alloc), tokens));
@@ -195,6 +203,7 @@ where
     }
 
     /// `(`, perhaps parameters, and `)`.
+    #[tactic(auto, unfolding(crate::specs::Reading::function))]
     fn function<'t>(&self, tokens: &'t [Token]) -> Read<'t, Suffix>
         requires { Leads E.Fn D.Fn self.now.expr self.now.declarator self.now.src.now self.now.depth }
         ensures { Gives seen result (at_depth reading.function self.now.src.now self.now.depth tokens.now) }
@@ -205,6 +214,7 @@ where
         Ok((Suffix::Function(open.line, parameters), rest))
     }
 
+    #[tactic(auto, unfolding(crate::specs::Reading::suffix))]
     fn suffix<'t>(&self, tokens: &'t [Token]) -> Read<'t, Suffix>
         requires { Leads E.Fn D.Fn self.now.expr self.now.declarator self.now.src.now self.now.depth }
         ensures { Gives seen result (at_depth reading.suffix self.now.src.now self.now.depth tokens.now) }
@@ -217,6 +227,7 @@ where
     }
 
     /// What stands behind the middle of a declarator, and behind what was found there before.
+    #[tactic(auto, unfolding(crate::specs::Reading::suffixes, crate::specs::Reading::grown_from))]
     fn suffixes<'t>(&self, before: Items<Suffix>, tokens: &'t [Token]) -> Read<'t, Items<Suffix>>
         requires { Leads E.Fn D.Fn self.now.expr self.now.declarator self.now.src.now self.now.depth }
         ensures { Gives seen result (at_depth reading.suffixes self.now.src.now self.now.depth before tokens.now) }
@@ -235,6 +246,7 @@ where
     }
 
     /// A name with what stands behind it.
+    #[tactic(auto, unfolding(crate::specs::Reading::named))]
     fn named<'t>(&self, tokens: &'t [Token]) -> Read<'t, (Direct, Items<Suffix>)>
         requires { Leads E.Fn D.Fn self.now.expr self.now.declarator self.now.src.now self.now.depth }
         ensures { Gives seen result (at_depth reading.named self.now.src.now self.now.depth tokens.now) }
@@ -247,6 +259,7 @@ where
     }
 
     /// A declarator in parentheses with what stands behind it.
+    #[tactic(auto, unfolding(crate::specs::Reading::nested))]
     fn nested<'t>(&self, naming: Naming, tokens: &'t [Token]) -> Read<'t, (Direct, Items<Suffix>)>
         requires { Leads E.Fn D.Fn self.now.expr self.now.declarator self.now.src.now self.now.depth }
         ensures { Gives seen result (at_depth reading.nested self.now.src.now self.now.depth naming tokens.now) }
@@ -260,6 +273,7 @@ where
     }
 
     /// At least one suffix, without a name.
+    #[tactic(auto, unfolding(crate::specs::Reading::bare))]
     fn bare<'t>(&self, tokens: &'t [Token]) -> Read<'t, (Direct, Items<Suffix>)>
         requires { Leads E.Fn D.Fn self.now.expr self.now.declarator self.now.src.now self.now.depth }
         ensures { Gives seen result (at_depth reading.bare self.now.src.now self.now.depth tokens.now) }
@@ -303,24 +317,43 @@ where
         }
     }
 
-    /// The same behind pointers, behind which a declarator without a name may end.
-    fn core_behind<'t>(&self, naming: Naming, is_pointer: bool, tokens: &'t [Token]) -> Read<'t, (Direct, Items<Suffix>)>
-        requires { Leads E.Fn D.Fn self.now.expr self.now.declarator self.now.src.now self.now.depth }
+    /// Whether a declarator ends behind pointers and before these tokens.
+    fn ends(&self, naming: Naming, tokens: &[Token]) -> bool
+        ensures { result ≡ at_depth parts.ends self.now.src.now self.now.depth naming tokens.now }
     {
-        if is_pointer && may_end(naming, tokens) {
-            return Ok(((Direct::Unnamed, Items::new(self.alloc)), tokens));
+        match naming {
+            Naming::Named => false,
+            Naming::Unnamed => !begins(&SUFFIX_STARTS, tokens),
+            Naming::Either => !begins(&NAMED_STARTS, tokens),
         }
-        let (found, rest) = self.core(naming, tokens)?;
-        Ok((found, rest))
     }
 
+    /// The same behind pointers, behind which a declarator without a name may end.
+    #[tactic(auto, unfolding(crate::specs::Reading::core_behind))]
+    fn core_behind<'t>(&self, naming: Naming, pointers: &Items<Pointer>, tokens: &'t [Token]) -> Read<'t, (Direct, Items<Suffix>)>
+        requires { Leads E.Fn D.Fn self.now.expr self.now.declarator self.now.src.now self.now.depth }
+        ensures { Gives seen result (at_depth reading.core_behind self.now.src.now self.now.depth naming pointers.now tokens.now) }
+    {
+        match pointers.as_slice() {
+            [] => self.core(naming, tokens),
+            [_first, ..] => {
+                if self.ends(naming, tokens) {
+                    Ok(((Direct::Unnamed, Items::new(self.alloc)), tokens))
+                } else {
+                    self.core(naming, tokens)
+                }
+            }
+        }
+    }
+
+    #[tactic(auto, unfolding(crate::specs::Reading::declarator_line, crate::specs::Nodes::declarator_node))]
     pub fn declarator_line<'t>(&self, naming: Naming, tokens: &'t [Token]) -> Read<'t, Declarator>
         requires { Leads E.Fn D.Fn self.now.expr self.now.declarator self.now.src.now self.now.depth }
         ensures { Gives seen result (at_depth reading.declarator_line self.now.src.now self.now.depth naming tokens.now) }
     {
         let line = line_here(tokens);
         let (pointers, rest) = pointers(self.alloc, tokens)?;
-        let ((direct, suffixes), rest) = self.core_behind(naming, !pointers.is_empty(), rest)?;
+        let ((direct, suffixes), rest) = self.core_behind(naming, &pointers, rest)?;
         let declarator = Declarator {
             line,
             pointers,
@@ -330,6 +363,7 @@ where
         Ok((declarator, rest))
     }
 
+    #[tactic(auto, unfolding(crate::specs::Reading::type_name, crate::specs::Nodes::type_node))]
     pub fn type_name<'t>(&self, tokens: &'t [Token]) -> Read<'t, TypeName>
         requires { Leads E.Fn D.Fn self.now.expr self.now.declarator self.now.src.now self.now.depth }
         ensures { Gives seen result (at_depth reading.type_name self.now.src.now self.now.depth tokens.now) }
@@ -338,14 +372,5 @@ where
         let (declarator, rest) = self.declared(Naming::Unnamed, &ABSTRACT_STARTS, rest)?;
         let line = first_line(&specifiers);
         Ok((TypeName { line, specifiers, declarator }, rest))
-    }
-}
-
-/// Whether behind pointers a declarator ends before these tokens.
-fn may_end(naming: Naming, tokens: &[Token]) -> bool {
-    match naming {
-        Naming::Named => false,
-        Naming::Unnamed => !begins(&SUFFIX_STARTS, tokens),
-        Naming::Either => !begins(&[NAME], tokens) && !begins(&SUFFIX_STARTS, tokens),
     }
 }

@@ -1,9 +1,11 @@
 //! Expressions (C11 6.5).
 
-ghost use Rattle.std.specs.Prelude.{◌≡◌, ◌++◌, ◌<◌, ◌≤◌, length};
+ghost use Rattle.std.specs.Prelude.{◌≡◌, ◌++◌, ◌<◌, ◌≤◌, length, IfOk};
 ghost use Rattle.c_parser.specs.Reading as reading;
 ghost use Rattle.c_parser.specs.Nodes as nodes;
-ghost use Rattle.c_parser.specs.Outcome.{Gives, seen, at_depth, applied, Leads};
+ghost use Rattle.c_parser.specs.Parts as parts;
+ghost use Rattle.c_parser.specs.Outcome.{Gives, seen, at_depth, Leads};
+ghost use Rattle.c_parser.specs.declared.start.Start.TheVariants as start;
 
 use crate::codes::{
     ASSIGNMENT_OPERATORS, CLOSE_BRACKET, CLOSE_PAREN, COLON, COMMA, LEVELS, NAME, OPEN_BRACKET, OPEN_PAREN,
@@ -18,21 +20,9 @@ use c_lexer::{Token, TokenKind};
 use c_tree::{BinaryOp, Declarator, Expr, ExprNode, PrefixOp, TypeName};
 use sqlite_items::{Boxed, Items};
 use srmt_base::Op;
-use std::alloc::Global;
+use std::alloc::{AllocError, Global};
 
-/// A number or a character constant.
-fn constant(tokens: &[Token]) -> Read<'_, Expr>
-    ensures { Gives seen result (reading.constant tokens.now) }
-{
-    match tokens {
-        [] => Err(Fault::Refused(0)),
-        [first, rest @ ..] => match constant_node(first.kind) {
-            None => Err(Fault::Refused(tokens.len())),
-            Some(node) => Ok((Expr { line: first.line, node }, rest)),
-        },
-    }
-}
-
+/// The node of a number or a character constant.
 fn constant_node(kind: TokenKind) -> Option<ExprNode>
     ensures { result ≡ nodes.constant_node kind }
 {
@@ -44,7 +34,10 @@ fn constant_node(kind: TokenKind) -> Option<ExprNode>
 }
 
 /// A name.
-fn name<'t>(alloc: Global, src: &[u8], tokens: &'t [Token]) -> Read<'t, Expr> {
+#[tactic(auto, unfolding(crate::specs::Nodes::at_line))]
+fn name<'t>(alloc: Global, src: &[u8], tokens: &'t [Token]) -> Read<'t, Expr>
+    ensures { Gives seen result (parts.name_line src.now tokens.now) }
+{
     let (first, rest) = one(NAME, tokens)?;
     let bytes = spelling(alloc, src, first)?;
     let expr = Expr {
@@ -55,7 +48,10 @@ fn name<'t>(alloc: Global, src: &[u8], tokens: &'t [Token]) -> Read<'t, Expr> {
 }
 
 /// The bytes of texts behind bytes of the same node.
-fn text_bytes_behind<'t>(alloc: Global, src: &[u8], before: Vec<u8>, tokens: &'t [Token]) -> Read<'t, Vec<u8>> {
+#[tactic(auto, unfolding(crate::specs::Reading::grown_from))]
+fn text_bytes_behind<'t>(alloc: Global, src: &[u8], before: Items<u8>, tokens: &'t [Token]) -> Read<'t, Items<u8>>
+    ensures { Gives seen result (parts.texts_behind src.now before tokens.now) }
+{
     let mut bytes = before;
     let mut rest = tokens;
     for _turn in 0..tokens.len() {
@@ -64,25 +60,14 @@ fn text_bytes_behind<'t>(alloc: Global, src: &[u8], before: Vec<u8>, tokens: &'t
         }
         let (text, more) = one(TEXT, rest)?;
         let next = text_of(alloc, src, text)?;
-        bytes.extend_from_slice(&next)?;
+        bytes.append(next)?;
         rest = more;
     }
     Ok((bytes, rest))
 }
 
-/// Adjacent texts.
-fn texts<'t>(alloc: Global, src: &[u8], tokens: &'t [Token]) -> Read<'t, Expr> {
-    let (first, rest) = one(TEXT, tokens)?;
-    let bytes = text_of(alloc, src, first)?;
-    let (bytes, rest) = text_bytes_behind(alloc, src, bytes, rest)?;
-    let expr = Expr {
-        line: first.line,
-        node: ExprNode::Text(Items::from_vec(bytes)),
-    };
-    Ok((expr, rest))
-}
-
 /// Whether an expression is a unary expression (C11 6.5.3), which alone may stand left of an assignment operator.
+#[tactic(auto, unfolding(crate::specs::Nodes::is_unary))]
 fn is_unary(expr: &Expr) -> bool
     ensures { result ≡ nodes.is_unary expr.now }
 {
@@ -97,7 +82,10 @@ fn is_unary(expr: &Expr) -> bool
 }
 
 /// A node with the line of the expression that it begins with.
-fn binary_node(alloc: Global, left: Expr, line: u32, op: BinaryOp, right: Expr) -> Result<Expr, Fault> {
+#[tactic(auto, unfolding(crate::specs::Nodes::at_line, crate::specs::Nodes::line_of))]
+fn binary_node(alloc: Global, left: Expr, line: u32, op: BinaryOp, right: Expr) -> Result<Expr, AllocError>
+    ensures { IfOk result (λ x. x ≡ nodes.binary_node left line op right) }
+{
     let first = left.line;
     let left = Boxed::new(alloc, left)?;
     let right = Boxed::new(alloc, right)?;
@@ -107,7 +95,10 @@ fn binary_node(alloc: Global, left: Expr, line: u32, op: BinaryOp, right: Expr) 
     })
 }
 
-fn assign_node(alloc: Global, left: Expr, line: u32, op: Option<Op>, right: Expr) -> Result<Expr, Fault> {
+#[tactic(auto, unfolding(crate::specs::Nodes::at_line, crate::specs::Nodes::line_of))]
+fn assign_node(alloc: Global, left: Expr, line: u32, op: Option<Op>, right: Expr) -> Result<Expr, AllocError>
+    ensures { IfOk result (λ x. x ≡ nodes.assign_node left line op right) }
+{
     let first = left.line;
     let left = Boxed::new(alloc, left)?;
     let right = Boxed::new(alloc, right)?;
@@ -117,7 +108,10 @@ fn assign_node(alloc: Global, left: Expr, line: u32, op: Option<Op>, right: Expr
     })
 }
 
-fn comma_node(alloc: Global, left: Expr, right: Expr) -> Result<Expr, Fault> {
+#[tactic(auto, unfolding(crate::specs::Nodes::at_line, crate::specs::Nodes::line_of))]
+fn comma_node(alloc: Global, left: Expr, right: Expr) -> Result<Expr, AllocError>
+    ensures { IfOk result (λ x. x ≡ nodes.comma_node left right) }
+{
     let first = left.line;
     let left = Boxed::new(alloc, left)?;
     let right = Boxed::new(alloc, right)?;
@@ -132,8 +126,41 @@ where
     E: Fn(Start, &[Token]) -> Result<(Expr, &[Token]), Fault>,
     D: Fn(Naming, &[Token]) -> Result<(Declarator, &[Token]), Fault>,
 {
+    /// A number or a character constant.
+    #[tactic(auto, unfolding(crate::specs::Reading::constant, crate::specs::Reading::token, crate::specs::Nodes::at_line))]
+    fn constant<'t>(&self, tokens: &'t [Token]) -> Read<'t, Expr>
+        ensures { Gives seen result (at_depth reading.constant self.now.src.now self.now.depth tokens.now) }
+    {
+        match tokens {
+            [] => Err(Fault::Refused(0)),
+            [first, rest @ ..] => match constant_node(first.kind) {
+                None => Err(Fault::Refused(tokens.len())),
+                Some(node) => Ok((Expr { line: first.line, node }, rest)),
+            },
+        }
+    }
+
+    /// Adjacent texts.
+    #[tactic(auto, unfolding(crate::specs::Reading::texts, crate::specs::Nodes::at_line))]
+    fn texts<'t>(&self, tokens: &'t [Token]) -> Read<'t, Expr>
+        ensures { Gives seen result (at_depth reading.texts self.now.src.now self.now.depth tokens.now) }
+    {
+        let (first, rest) = one(TEXT, tokens)?;
+        let bytes = text_of(self.alloc, self.src, first)?;
+        let (bytes, rest) = text_bytes_behind(self.alloc, self.src, bytes, rest)?;
+        let expr = Expr {
+            line: first.line,
+            node: ExprNode::Text(bytes),
+        };
+        Ok((expr, rest))
+    }
+
     /// An expression in parentheses.
-    fn parenthesized<'t>(&self, tokens: &'t [Token]) -> Read<'t, Expr> {
+    #[tactic(auto, unfolding(crate::specs::Reading::parenthesized, crate::specs::Nodes::at_line))]
+    fn parenthesized<'t>(&self, tokens: &'t [Token]) -> Read<'t, Expr>
+        requires { Leads E.Fn D.Fn self.now.expr self.now.declarator self.now.src.now self.now.depth }
+        ensures { Gives seen result (at_depth reading.parenthesized self.now.src.now self.now.depth tokens.now) }
+    {
         let (open, rest) = one(OPEN_PAREN, tokens)?;
         let (inner, rest) = (self.expr)(Start::Expression, rest)?;
         let (_close, rest) = one(CLOSE_PAREN, rest)?;
@@ -145,20 +172,28 @@ where
     }
 
     /// C11 6.5.1
-    fn primary<'t>(&self, tokens: &'t [Token]) -> Read<'t, Expr> {
+    #[tactic(auto, unfolding(crate::specs::Reading::primary))]
+    fn primary<'t>(&self, tokens: &'t [Token]) -> Read<'t, Expr>
+        requires { Leads E.Fn D.Fn self.now.expr self.now.declarator self.now.src.now self.now.depth }
+        ensures { Gives seen result (at_depth reading.primary self.now.src.now self.now.depth tokens.now) }
+    {
         if begins(&[NAME], tokens) {
             name(self.alloc, self.src, tokens)
         } else if begins(&[TEXT], tokens) {
-            texts(self.alloc, self.src, tokens)
+            self.texts(tokens)
         } else if begins(&[OPEN_PAREN], tokens) {
             self.parenthesized(tokens)
         } else {
-            constant(tokens)
+            self.constant(tokens)
         }
     }
 
     /// `[`, an index and `]` behind an array (C11 6.5.2.1).
-    fn index<'t>(&self, left: Expr, tokens: &'t [Token]) -> Read<'t, Expr> {
+    #[tactic(auto, unfolding(crate::specs::Reading::index, crate::specs::Nodes::at_line, crate::specs::Nodes::line_of))]
+    fn index<'t>(&self, left: Expr, tokens: &'t [Token]) -> Read<'t, Expr>
+        requires { Leads E.Fn D.Fn self.now.expr self.now.declarator self.now.src.now self.now.depth }
+        ensures { Gives seen result (parts.applied (at_depth reading.index self.now.src.now self.now.depth) left tokens.now) }
+    {
         let (open, rest) = one(OPEN_BRACKET, tokens)?;
         let (index, rest) = (self.expr)(Start::Expression, rest)?;
         let (_close, rest) = one(CLOSE_BRACKET, rest)?;
@@ -170,14 +205,21 @@ where
     }
 
     /// An argument behind a comma.
-    fn next_argument<'t>(&self, tokens: &'t [Token]) -> Read<'t, Expr> {
+    fn next_argument<'t>(&self, tokens: &'t [Token]) -> Read<'t, Expr>
+        requires { Leads E.Fn D.Fn self.now.expr self.now.declarator self.now.src.now self.now.depth }
+        ensures { Gives seen result (reading.behind_comma (reading.expr_at self.now.src.now self.now.depth start.Assignment) tokens.now) }
+    {
         let (_comma, rest) = one(COMMA, tokens)?;
         let (argument, rest) = (self.expr)(Start::Assignment, rest)?;
         Ok((argument, rest))
     }
 
     /// At least one argument.
-    fn some_arguments<'t>(&self, tokens: &'t [Token]) -> Read<'t, Items<Expr>> {
+    #[tactic(auto, unfolding(crate::specs::Reading::grown_from))]
+    fn some_arguments<'t>(&self, tokens: &'t [Token]) -> Read<'t, Items<Expr>>
+        requires { Leads E.Fn D.Fn self.now.expr self.now.declarator self.now.src.now self.now.depth }
+        ensures { Gives seen result (reading.listed (reading.expr_at self.now.src.now self.now.depth start.Assignment) tokens.now) }
+    {
         let mut found = Items::new(self.alloc);
         let (first, mut rest) = (self.expr)(Start::Assignment, tokens)?;
         found.push(first)?;
@@ -193,7 +235,11 @@ where
     }
 
     /// What stands between the parentheses of a call.
-    fn arguments<'t>(&self, tokens: &'t [Token]) -> Read<'t, Items<Expr>> {
+    #[tactic(auto, unfolding(crate::specs::Reading::arguments))]
+    fn arguments<'t>(&self, tokens: &'t [Token]) -> Read<'t, Items<Expr>>
+        requires { Leads E.Fn D.Fn self.now.expr self.now.declarator self.now.src.now self.now.depth }
+        ensures { Gives seen result (at_depth reading.arguments self.now.src.now self.now.depth tokens.now) }
+    {
         if begins(&[CLOSE_PAREN], tokens) {
             return Ok((Items::new(self.alloc), tokens));
         }
@@ -202,7 +248,11 @@ where
     }
 
     /// `(`, arguments and `)` behind what is called (C11 6.5.2.2).
-    fn call<'t>(&self, left: Expr, tokens: &'t [Token]) -> Read<'t, Expr> {
+    #[tactic(auto, unfolding(crate::specs::Reading::call, crate::specs::Nodes::at_line, crate::specs::Nodes::line_of))]
+    fn call<'t>(&self, left: Expr, tokens: &'t [Token]) -> Read<'t, Expr>
+        requires { Leads E.Fn D.Fn self.now.expr self.now.declarator self.now.src.now self.now.depth }
+        ensures { Gives seen result (parts.applied (at_depth reading.call self.now.src.now self.now.depth) left tokens.now) }
+    {
         let (open, rest) = one(OPEN_PAREN, tokens)?;
         let (arguments, rest) = self.arguments(rest)?;
         let (_close, rest) = one(CLOSE_PAREN, rest)?;
@@ -213,7 +263,11 @@ where
     }
 
     /// `++` or `--` behind its operand (C11 6.5.2.4).
-    fn step<'t>(&self, left: Expr, tokens: &'t [Token]) -> Read<'t, Expr> {
+    #[tactic(auto, unfolding(crate::specs::Nodes::at_line, crate::specs::Nodes::line_of))]
+    fn step<'t>(&self, left: Expr, tokens: &'t [Token]) -> Read<'t, Expr>
+        requires { Leads E.Fn D.Fn self.now.expr self.now.declarator self.now.src.now self.now.depth }
+        ensures { Gives seen result (parts.applied parts.step left tokens.now) }
+    {
         let ((at, op), rest) = sign(&POSTFIX_OPERATORS, tokens)?;
         let line = left.line;
         let left = Boxed::new(self.alloc, left)?;
@@ -222,7 +276,11 @@ where
     }
 
     /// What stands behind a postfix expression, with it.
-    fn postfix_part<'t>(&self, left: Expr, tokens: &'t [Token]) -> Read<'t, Expr> {
+    #[tactic(auto, unfolding(crate::specs::Reading::postfix_part))]
+    fn postfix_part<'t>(&self, left: Expr, tokens: &'t [Token]) -> Read<'t, Expr>
+        requires { Leads E.Fn D.Fn self.now.expr self.now.declarator self.now.src.now self.now.depth }
+        ensures { Gives seen result (parts.applied (at_depth reading.postfix_part self.now.src.now self.now.depth) left tokens.now) }
+    {
         if begins(&[OPEN_BRACKET], tokens) {
             self.index(left, tokens)
         } else if begins(&[OPEN_PAREN], tokens) {
@@ -233,7 +291,11 @@ where
     }
 
     /// C11 6.5.2
-    fn postfix<'t>(&self, tokens: &'t [Token]) -> Read<'t, Expr> {
+    #[tactic(auto, unfolding(crate::specs::Reading::postfix, crate::specs::Reading::grown_from))]
+    fn postfix<'t>(&self, tokens: &'t [Token]) -> Read<'t, Expr>
+        requires { Leads E.Fn D.Fn self.now.expr self.now.declarator self.now.src.now self.now.depth }
+        ensures { Gives seen result (at_depth reading.postfix self.now.src.now self.now.depth tokens.now) }
+    {
         let (mut left, mut rest) = self.primary(tokens)?;
         for _turn in 0..rest.len() {
             if !begins(&POSTFIX_STARTS, rest) {
@@ -247,7 +309,10 @@ where
     }
 
     /// The name of a type in parentheses.
-    fn enclosed_type<'t>(&self, tokens: &'t [Token]) -> Read<'t, TypeName> {
+    fn enclosed_type<'t>(&self, tokens: &'t [Token]) -> Read<'t, TypeName>
+        requires { Leads E.Fn D.Fn self.now.expr self.now.declarator self.now.src.now self.now.depth }
+        ensures { Gives seen result (reading.in_parens (at_depth reading.type_name self.now.src.now self.now.depth) tokens.now) }
+    {
         let (_open, rest) = one(OPEN_PAREN, tokens)?;
         let (ty, rest) = self.type_name(rest)?;
         let (_close, rest) = one(CLOSE_PAREN, rest)?;
@@ -255,7 +320,11 @@ where
     }
 
     /// What `sizeof` is applied to, with a node at its line.
-    fn measured<'t>(&self, line: u32, tokens: &'t [Token]) -> Read<'t, Expr> {
+    #[tactic(auto, unfolding(crate::specs::Nodes::at_line))]
+    fn measured<'t>(&self, line: u32, tokens: &'t [Token]) -> Read<'t, Expr>
+        requires { Leads E.Fn D.Fn self.now.expr self.now.declarator self.now.src.now self.now.depth }
+        ensures { Gives seen result (at_depth parts.measured self.now.src.now self.now.depth line tokens.now) }
+    {
         if begins_type(tokens) {
             let (ty, rest) = self.enclosed_type(tokens)?;
             let node = ExprNode::SizeofType(Boxed::new(self.alloc, ty)?);
@@ -267,14 +336,22 @@ where
     }
 
     /// `sizeof` and what it is applied to (C11 6.5.3.4).
-    fn sizeof<'t>(&self, tokens: &'t [Token]) -> Read<'t, Expr> {
+    #[tactic(auto, unfolding(crate::specs::Reading::sizeof))]
+    fn sizeof<'t>(&self, tokens: &'t [Token]) -> Read<'t, Expr>
+        requires { Leads E.Fn D.Fn self.now.expr self.now.declarator self.now.src.now self.now.depth }
+        ensures { Gives seen result (at_depth reading.sizeof self.now.src.now self.now.depth tokens.now) }
+    {
         let (word, rest) = one(SIZEOF, tokens)?;
         let (expr, rest) = self.measured(word.line, rest)?;
         Ok((expr, rest))
     }
 
     /// An operator of a table before its operand.
-    fn prefix<'t>(&self, table: &[(u16, PrefixOp)], start: Start, tokens: &'t [Token]) -> Read<'t, Expr> {
+    #[tactic(auto, unfolding(crate::specs::Reading::prefix, crate::specs::Nodes::at_line))]
+    fn prefix<'t>(&self, table: &[(u16, PrefixOp)], start: Start, tokens: &'t [Token]) -> Read<'t, Expr>
+        requires { Leads E.Fn D.Fn self.now.expr self.now.declarator self.now.src.now self.now.depth }
+        ensures { Gives seen result (at_depth reading.prefix self.now.src.now self.now.depth table.now start tokens.now) }
+    {
         let ((line, op), rest) = sign(table, tokens)?;
         let (operand, rest) = (self.expr)(start, rest)?;
         let node = ExprNode::Prefix(op, Boxed::new(self.alloc, operand)?);
@@ -282,7 +359,11 @@ where
     }
 
     /// C11 6.5.3
-    pub fn unary<'t>(&self, tokens: &'t [Token]) -> Read<'t, Expr> {
+    #[tactic(auto, unfolding(crate::specs::Reading::unary))]
+    pub fn unary<'t>(&self, tokens: &'t [Token]) -> Read<'t, Expr>
+        requires { Leads E.Fn D.Fn self.now.expr self.now.declarator self.now.src.now self.now.depth }
+        ensures { Gives seen result (at_depth reading.unary self.now.src.now self.now.depth tokens.now) }
+    {
         if begins(&[SIZEOF], tokens) {
             self.sizeof(tokens)
         } else if begins_in(&STEP_OPERATORS, tokens) {
@@ -295,7 +376,11 @@ where
     }
 
     /// A type in parentheses and its operand (C11 6.5.4).
-    fn typed<'t>(&self, tokens: &'t [Token]) -> Read<'t, Expr> {
+    #[tactic(auto, unfolding(crate::specs::Reading::typed, crate::specs::Nodes::at_line))]
+    fn typed<'t>(&self, tokens: &'t [Token]) -> Read<'t, Expr>
+        requires { Leads E.Fn D.Fn self.now.expr self.now.declarator self.now.src.now self.now.depth }
+        ensures { Gives seen result (at_depth reading.typed self.now.src.now self.now.depth tokens.now) }
+    {
         let (open, rest) = one(OPEN_PAREN, tokens)?;
         let (ty, rest) = self.type_name(rest)?;
         let (_close, rest) = one(CLOSE_PAREN, rest)?;
@@ -310,7 +395,11 @@ where
     }
 
     /// C11 6.5.4
-    pub fn cast<'t>(&self, tokens: &'t [Token]) -> Read<'t, Expr> {
+    #[tactic(auto, unfolding(crate::specs::Reading::cast))]
+    pub fn cast<'t>(&self, tokens: &'t [Token]) -> Read<'t, Expr>
+        requires { Leads E.Fn D.Fn self.now.expr self.now.declarator self.now.src.now self.now.depth }
+        ensures { Gives seen result (at_depth reading.cast self.now.src.now self.now.depth tokens.now) }
+    {
         if begins_type(tokens) {
             self.typed(tokens)
         } else {
@@ -318,27 +407,49 @@ where
         }
     }
 
-    /// Operands with the operators of the levels below a number between them (C11 6.5.5 to 6.5.14).
-    fn level<'t>(&self, levels: u8, tokens: &'t [Token]) -> Read<'t, Expr> {
-        if levels == 0 {
-            return self.cast(tokens);
-        }
-        let table = binary_operators(levels - 1);
-        let (mut left, mut rest) = self.level(levels - 1, tokens)?;
-        for _turn in 0..rest.len() {
+    /// The operators of a level with their right operands behind a left operand, with it.
+    #[cycle(level)]
+    #[tactic(auto, unfolding(crate::specs::Reading::grown_from))]
+    fn operations<'t>(&self, level: u8, left: Expr, tokens: &'t [Token]) -> Read<'t, Expr>
+        requires { Leads E.Fn D.Fn self.now.expr self.now.declarator self.now.src.now self.now.depth }
+        ensures { Gives seen result (at_depth parts.operations self.now.src.now self.now.depth level left tokens.now) }
+    {
+        let table = binary_operators(level);
+        let mut left = left;
+        let mut rest = tokens;
+        for _turn in 0..tokens.len() {
             if !begins_in(table, rest) {
                 break;
             }
             let ((line, op), behind) = sign(table, rest)?;
-            let (right, more) = self.level(levels - 1, behind)?;
+            let (right, more) = self.level(level, behind)?;
             left = binary_node(self.alloc, left, line, op, right)?;
             rest = more;
         }
         Ok((left, rest))
     }
 
+    /// Operands with the operators of the levels below a number between them (C11 6.5.5 to 6.5.14).
+    #[cycle(level)]
+    fn level<'t>(&self, levels: u8, tokens: &'t [Token]) -> Read<'t, Expr>
+        requires { Leads E.Fn D.Fn self.now.expr self.now.declarator self.now.src.now self.now.depth }
+        ensures { Gives seen result (at_depth reading.level self.now.src.now self.now.depth levels tokens.now) }
+    {
+        let (mut left, mut rest) = self.cast(tokens)?;
+        for level in 0..levels {
+            let (longer, more) = self.operations(level, left, rest)?;
+            left = longer;
+            rest = more;
+        }
+        Ok((left, rest))
+    }
+
     /// `?` and both branches behind a condition.
-    fn branches<'t>(&self, condition: Expr, tokens: &'t [Token]) -> Read<'t, Expr> {
+    #[tactic(auto, unfolding(crate::specs::Reading::branches, crate::specs::Nodes::at_line, crate::specs::Nodes::line_of))]
+    fn branches<'t>(&self, condition: Expr, tokens: &'t [Token]) -> Read<'t, Expr>
+        requires { Leads E.Fn D.Fn self.now.expr self.now.declarator self.now.src.now self.now.depth }
+        ensures { Gives seen result (parts.applied (at_depth reading.branches self.now.src.now self.now.depth) condition tokens.now) }
+    {
         let (question, rest) = one(QUESTION, tokens)?;
         let (first, rest) = (self.expr)(Start::Expression, rest)?;
         let (_colon, rest) = one(COLON, rest)?;
@@ -352,7 +463,11 @@ where
     }
 
     /// C11 6.5.15
-    pub fn conditional<'t>(&self, tokens: &'t [Token]) -> Read<'t, Expr> {
+    #[tactic(auto, unfolding(crate::specs::Reading::conditional))]
+    pub fn conditional<'t>(&self, tokens: &'t [Token]) -> Read<'t, Expr>
+        requires { Leads E.Fn D.Fn self.now.expr self.now.declarator self.now.src.now self.now.depth }
+        ensures { Gives seen result (at_depth reading.conditional self.now.src.now self.now.depth tokens.now) }
+    {
         let (condition, rest) = self.level(LEVELS, tokens)?;
         if begins(&[QUESTION], rest) {
             self.branches(condition, rest)
@@ -362,7 +477,11 @@ where
     }
 
     /// An assignment operator and the right side behind a left side.
-    fn assigned<'t>(&self, left: Expr, tokens: &'t [Token]) -> Read<'t, Expr> {
+    #[tactic(auto, unfolding(crate::specs::Reading::assigned))]
+    fn assigned<'t>(&self, left: Expr, tokens: &'t [Token]) -> Read<'t, Expr>
+        requires { Leads E.Fn D.Fn self.now.expr self.now.declarator self.now.src.now self.now.depth }
+        ensures { Gives seen result (at_depth reading.assigned self.now.src.now self.now.depth left tokens.now) }
+    {
         let ((line, op), rest) = sign(&ASSIGNMENT_OPERATORS, tokens)?;
         let (right, rest) = (self.expr)(Start::Assignment, rest)?;
         let expr = assign_node(self.alloc, left, line, op, right)?;
@@ -370,7 +489,11 @@ where
     }
 
     /// C11 6.5.16
-    pub fn assignment<'t>(&self, tokens: &'t [Token]) -> Read<'t, Expr> {
+    #[tactic(auto, unfolding(crate::specs::Reading::assignment))]
+    pub fn assignment<'t>(&self, tokens: &'t [Token]) -> Read<'t, Expr>
+        requires { Leads E.Fn D.Fn self.now.expr self.now.declarator self.now.src.now self.now.depth }
+        ensures { Gives seen result (at_depth reading.assignment self.now.src.now self.now.depth tokens.now) }
+    {
         let (left, rest) = self.conditional(tokens)?;
         if is_unary(&left) && begins_in(&ASSIGNMENT_OPERATORS, rest) {
             self.assigned(left, rest)
@@ -380,14 +503,21 @@ where
     }
 
     /// An operand behind a comma.
-    fn next_operand<'t>(&self, tokens: &'t [Token]) -> Read<'t, Expr> {
+    fn next_operand<'t>(&self, tokens: &'t [Token]) -> Read<'t, Expr>
+        requires { Leads E.Fn D.Fn self.now.expr self.now.declarator self.now.src.now self.now.depth }
+        ensures { Gives seen result (reading.behind_comma (at_depth reading.assignment self.now.src.now self.now.depth) tokens.now) }
+    {
         let (_comma, rest) = one(COMMA, tokens)?;
         let (operand, rest) = self.assignment(rest)?;
         Ok((operand, rest))
     }
 
     /// C11 6.5.17
-    pub fn expression<'t>(&self, tokens: &'t [Token]) -> Read<'t, Expr> {
+    #[tactic(auto, unfolding(crate::specs::Reading::expression, crate::specs::Reading::grown_from))]
+    pub fn expression<'t>(&self, tokens: &'t [Token]) -> Read<'t, Expr>
+        requires { Leads E.Fn D.Fn self.now.expr self.now.declarator self.now.src.now self.now.depth }
+        ensures { Gives seen result (at_depth reading.expression self.now.src.now self.now.depth tokens.now) }
+    {
         let (mut left, mut rest) = self.assignment(tokens)?;
         for _turn in 0..rest.len() {
             if !begins(&[COMMA], rest) {
@@ -401,7 +531,10 @@ where
     }
 
     /// The line of the grammar at which reading begins.
-    pub fn expr_line<'t>(&self, start: Start, tokens: &'t [Token]) -> Read<'t, Expr> {
+    pub fn expr_line<'t>(&self, start: Start, tokens: &'t [Token]) -> Read<'t, Expr>
+        requires { Leads E.Fn D.Fn self.now.expr self.now.declarator self.now.src.now self.now.depth }
+        ensures { Gives seen result (at_depth reading.expr_line self.now.src.now self.now.depth start tokens.now) }
+    {
         match start {
             Start::Expression => self.expression(tokens),
             Start::Assignment => self.assignment(tokens),

@@ -25,12 +25,12 @@ pub fn expr_at<'t>(alloc: Global, src: &[u8], depth: usize, start: Start, tokens
         src,
         below,
         |start, rest|
-            ensures { Gives seen result (reading.expr_at src.now below start rest.now) }
+            ensures { Gives seen result (reading.expr_at src.entry.now below start rest.now) }
         {
             expr_at(alloc, src, below, start, rest)
         },
         |naming, rest|
-            ensures { Gives seen result (reading.declarator_at src.now below naming rest.now) }
+            ensures { Gives seen result (reading.declarator_at src.entry.now below naming rest.now) }
         {
             declarator_at(alloc, src, below, naming, rest)
         },
@@ -52,12 +52,12 @@ pub fn declarator_at<'t>(alloc: Global, src: &[u8], depth: usize, naming: Naming
         src,
         below,
         |start, rest|
-            ensures { Gives seen result (reading.expr_at src.now below start rest.now) }
+            ensures { Gives seen result (reading.expr_at src.entry.now below start rest.now) }
         {
             expr_at(alloc, src, below, start, rest)
         },
         |naming, rest|
-            ensures { Gives seen result (reading.declarator_at src.now below naming rest.now) }
+            ensures { Gives seen result (reading.declarator_at src.entry.now below naming rest.now) }
         {
             declarator_at(alloc, src, below, naming, rest)
         },

@@ -10,14 +10,20 @@ mod grammar;
 mod hub;
 mod law;
 mod leaf;
+mod nesting;
+mod parser;
 mod refusal;
+mod source;
 mod start;
+mod statement;
 #[cfg(test)]
 mod tests;
 mod tokens;
+mod unit;
 
 pub use fault::Fault;
 pub use hub::{declarator_at, expr_at};
 pub use law::{one_expression, one_unit};
+pub use parser::parse;
 pub use refusal::ParseRefusal;
 pub use start::{Naming, Start};

@@ -1,11 +1,13 @@
 //! What some tokens begin with.
 
-ghost use Rattle.std.specs.Prelude.{◌≡◌, ◌≤◌, length, IsTrue};
+ghost use Rattle.std.specs.Prelude.{◌≡◌, ◌≤◌, length, Ok};
 ghost use Rattle.c_parser.specs.Codes as codes;
 ghost use Rattle.c_parser.specs.Reading as reading;
+ghost use Rattle.c_parser.specs.Parts as parts;
+ghost use Rattle.c_parser.specs.Spelling.{line_at};
 ghost use Rattle.c_parser.specs.Outcome.{Gives, seen};
 
-use crate::codes::{CLOSE_PAREN, OPEN_PAREN, SPECIFIER_WORDS, code};
+use crate::codes::{OPEN_PAREN, PARAMETER_STARTS, SPECIFIER_WORDS, code};
 use crate::fault::{Fault, Read};
 use c_lexer::Token;
 
@@ -13,10 +15,12 @@ use c_lexer::Token;
 pub fn one_of(kinds: &[u16], kind: u16) -> bool
     ensures { result ≡ codes.one_of kinds.now kind }
 {
-    for k in kinds {
-        if kind == *k {
+    let mut left = kinds;
+    while let [first, others @ ..] = left {
+        if kind == *first {
             return true;
         }
+        left = others;
     }
     false
 }
@@ -25,10 +29,12 @@ pub fn one_of(kinds: &[u16], kind: u16) -> bool
 pub fn meaning<A: Copy>(table: &[(u16, A)], kind: u16) -> Option<A>
     ensures { result ≡ codes.meaning table.now kind }
 {
-    for entry in table {
-        if kind == entry.0 {
-            return Some(entry.1);
+    let mut left = table;
+    while let [first, others @ ..] = left {
+        if kind == first.0 {
+            return Some(first.1);
         }
+        left = others;
     }
     None
 }
@@ -45,6 +51,7 @@ pub fn begins(kinds: &[u16], tokens: &[Token]) -> bool
 }
 
 /// Whether a table has the kind of the first token.
+#[tactic(auto, using(crate::proofs::Tables::one_of_kinds), unfolding(crate::specs::Reading::begins))]
 pub fn begins_in<A: Copy>(table: &[(u16, A)], tokens: &[Token]) -> bool
     ensures { result ≡ reading.begins (codes.kinds table.now) tokens.now }
 {
@@ -56,7 +63,7 @@ pub fn begins_in<A: Copy>(table: &[(u16, A)], tokens: &[Token]) -> bool
 
 /// The tokens behind the first one.
 fn behind(tokens: &[Token]) -> &[Token]
-    ensures { result.now ≡ reading.behind tokens.now }
+    ensures { result.now ≡ parts.behind tokens.now }
 {
     match tokens {
         [] => &[],
@@ -65,6 +72,7 @@ fn behind(tokens: &[Token]) -> &[Token]
 }
 
 /// Whether a `(` is first, and behind it the name of a type.
+#[tactic(auto, unfolding(crate::specs::Reading::begins_type, crate::specs::Reading::then_begins, crate::specs::Reading::begins))]
 pub fn begins_type(tokens: &[Token]) -> bool
     ensures { result ≡ reading.begins_type tokens.now }
 {
@@ -72,12 +80,11 @@ pub fn begins_type(tokens: &[Token]) -> bool
 }
 
 /// Whether a `(` is first that encloses a declarator, and begins no list of parameters.
+#[tactic(auto, unfolding(crate::specs::Reading::encloses, crate::specs::Reading::then_begins, crate::specs::Reading::begins))]
 pub fn encloses(tokens: &[Token]) -> bool
     ensures { result ≡ reading.encloses tokens.now }
 {
-    begins(&[OPEN_PAREN], tokens)
-        && !begins(&[CLOSE_PAREN], behind(tokens))
-        && !begins_in(&SPECIFIER_WORDS, behind(tokens))
+    begins(&[OPEN_PAREN], tokens) && !begins(&PARAMETER_STARTS, behind(tokens))
 }
 
 /// A token of this kind.
@@ -113,7 +120,7 @@ pub fn sign<'t, A: Copy>(table: &[(u16, A)], tokens: &'t [Token]) -> Read<'t, (u
 
 /// The line of the first token, or 0.
 pub fn line_here(tokens: &[Token]) -> u32
-    ensures { Gives seen (Ok (result, tokens.entry)) (reading.line_here tokens.now) }
+    ensures { result ≡ line_at tokens.now }
 {
     match tokens {
         [] => 0,

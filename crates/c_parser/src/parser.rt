@@ -1,0 +1,54 @@
+//! The whole parse.
+
+ghost use Rattle.std.specs.Prelude.{◌≡◌, ◌≤◌, ◌<◌, ◌^◌, length};
+
+use crate::codes::{GRAMMAR_WORDS, code};
+use crate::fault::Fault;
+use crate::nesting::first_too_deep;
+use crate::refusal::ParseRefusal;
+use crate::tokens::one_of;
+use crate::unit::unit;
+use c_lexer::{Token, TokenKind};
+use c_tree::Unit;
+use std::alloc::Global;
+
+/// Whether a kind stands nowhere in the grammar.
+fn is_left_out(kind: TokenKind) -> bool {
+    match kind {
+        TokenKind::Keyword(_) => !one_of(&GRAMMAR_WORDS, code(kind)),
+        TokenKind::Punct(place) => place == 6 || place == 7 || place == 33,
+        TokenKind::Name | TokenKind::Number(_, _) | TokenKind::Character(_) | TokenKind::Text => false,
+    }
+}
+
+/// Why the tokens stop in front of these.
+fn refusal(src: &[u8], rest: &[Token]) -> ParseRefusal {
+    match rest {
+        [] => ParseRefusal::Expected(src.len() as u32),
+        [first, ..] => {
+            if is_left_out(first.kind) {
+                ParseRefusal::LeftOut(first.start, first.kind)
+            } else {
+                ParseRefusal::Expected(first.start)
+            }
+        }
+    }
+}
+
+/// The unit that the tokens of a source are, or the place at which they stop being one (C11 6.5 to 6.9, in the
+/// accepted subset).
+pub fn parse(alloc: Global, tokens: &[Token], src: &[u8]) -> Result<Unit, ParseRefusal> {
+    match first_too_deep(alloc, tokens)? {
+        None => match unit(alloc, src, tokens) {
+            Ok(unit) => Ok(unit),
+            Err(Fault::Refused(left)) => Err(refusal(src, &tokens[tokens.len() - left..])),
+            Err(Fault::Memory) => Err(ParseRefusal::Memory),
+        },
+        Some(at) => match unit(alloc, src, &tokens[..at]) {
+            Ok(_unit) => Err(ParseRefusal::TooDeep(tokens[at].start)),
+            Err(Fault::Refused(0)) => Err(ParseRefusal::TooDeep(tokens[at].start)),
+            Err(Fault::Refused(left)) => Err(refusal(src, &tokens[at - left..])),
+            Err(Fault::Memory) => Err(ParseRefusal::Memory),
+        },
+    }
+}
