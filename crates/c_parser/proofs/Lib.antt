@@ -24,3 +24,4 @@ pub mod Enough
 pub mod EnoughExpr
 pub mod EnoughUnit
 pub mod RefusalLaws
+pub mod ParseLaws

@@ -110,7 +110,7 @@ module _ (src : Bytes) (m : ℕ) where
           same = λ t r other d. ap (λ v. and_then v ending) (one.same (t ∷ other) (let P : List Token → Type 0 = λ v. Alike v (t ∷ other) in subst P (sym d) refl)) }) ]
 
 -- two ways to cut a list with as much behind are one
-cut_once : (f g r s : List Token) → f ++ r ≡ g ++ s → length r ≡ length s → (f ≡ g) × (r ≡ s)
+pub cut_once : (f g r s : List Token) → f ++ r ≡ g ++ s → length r ≡ length s → (f ≡ g) × (r ≡ s)
 cut_once [] [] r s e d = (refl, e)
 cut_once [] (u ∷ g) r s e d =
     let sum : length r ≡ suc (length g + length s) = ap length e ∙ ap suc (length-append g s) in absurd (omega arith)

@@ -1,3 +1,4 @@
+use Rattle.c_parser.proofs.ParseLaws
 use Rattle.c_parser.proofs.RefusalLaws
 use Rattle.c_parser.proofs.EnoughUnit
 use Rattle.c_parser.proofs.EnoughExpr
