@@ -13,6 +13,7 @@ use Rattle.c_parser.specs.Units.{Derives}
 use Rattle.c_parser.specs.Nesting.{first_too_deep}
 use Rattle.c_parser.specs.Refusals.{BeginsUnit, Stops, RefusedAt, is_left_out, IsRefusalOf, NoneTooDeep, Refuses}
 use Rattle.c_parser.specs.ReadingUnits.{unit_of}
+use Rattle.c_parser.proofs.Alike.{head_same, tail_same, some_same}
 use Rattle.c_parser.proofs.UnitLaws.{unit_of_found, unit_of_derived}
 use Rattle.c_parser.proofs.RefusalLaws.{unit_of_refused, refusal_is_no_unit, cut_once}
 
@@ -137,3 +138,85 @@ refused_begins tokens src (Expected place) h = (h.0, h.1, h.2.parts, h.2.begins)
 refused_begins tokens src (LeftOut place kind) h = (h.0, h.1, h.2.parts, h.2.begins)
 refused_begins tokens src (TooDeep place) h = (h.0, h.1 ∷ h.2, h.3, h.5)
 refused_begins tokens src Memory h = absurd h
+
+-- ---- one refusal
+
+-- of two ways to cut a list one is in front of the other, or they are one
+abbrev Further : List Token → List Token → List Token → Type 0
+Further f g r = (t : Token) × (more : List Token) × (g ≡ f ++ t ∷ more) × ((rest : List Token) × (r ≡ t ∷ rest))
+
+compare : (f g r s : List Token) → f ++ r ≡ g ++ s → Further f g r ⊎ Further g f s ⊎ ((f ≡ g) × (r ≡ s))
+compare [] [] r s e = inr (inr (refl, e))
+compare [] (u ∷ g) r s e = inl (u, g, refl, (g ++ s, e))
+compare (t ∷ f) [] r s e = inr (inl (t, f, refl, (f ++ r, sym e)))
+compare (t ∷ f) (u ∷ g) r s e = elim (compare f g r s (tail_same e)) [
+      inl h ↦ inl (h.0, h.1, ap (λ v. v ∷ g) (sym (head_same e)) ∙ ap (λ v. t ∷ v) h.2, h.3)
+    | inr other ↦ (elim other [
+        inl h ↦ inr (inl (h.0, h.1, ap (λ v. v ∷ f) (head_same e) ∙ ap (λ v. u ∷ v) h.2, h.3))
+      | inr same ↦ inr (inr (ap (λ v. v ∷ f) (head_same e) ∙ ap (λ v. u ∷ v) same.0, same.1)) ]) ]
+
+-- no beginning lies behind the place of a refusal
+not_further : (src : Bytes) (f g r : List Token) → Stops f src r → BeginsUnit g src → Further f g r → ⊥
+not_further src f g [] stops b h = nothing_left h.3.1
+  where
+  nothing_left : {u : Token} {v : List Token} → [] ≡ u ∷ v → ⊥
+  nothing_left e = cc
+not_further src f g (t ∷ r) stops b h =
+    let same : t ≡ h.0 = head_same h.3.1 in
+    let P : List Token → Type 0 = λ v. BeginsUnit v src in
+    let word : g ≡ (f ++ t ∷ []) ++ h.1 = h.2 ∙ (ap (λ v. f ++ v ∷ h.1) (sym same) ∙ sym (append_assoc f (t ∷ []) h.1)) in
+    stops (begins_before src (f ++ t ∷ []) h.1 (subst P word b))
+
+same_place : (src : Bytes) (tokens f g r s : List Token) → RefusedAt tokens src f r → RefusedAt tokens src g s → (f ≡ g) × (r ≡ s)
+same_place src tokens f g r s h k = elim (compare f g r s (sym h.parts ∙ k.parts)) [
+      inl a ↦ absurd (not_further src f g r h.stops k.begins a)
+    | inr other ↦ (elim other [
+        inl b ↦ absurd (not_further src g f s k.stops h.begins b)
+      | inr same ↦ same ]) ]
+
+same_refusal : (src : Bytes) (rest : List Token) (a b : ParseRefusal) → IsRefusalOf src rest a → IsRefusalOf src rest b → a ≡ b
+same_refusal src [] a b h k = h ∙ sym k
+same_refusal src (t ∷ rest) a b h k = h ∙ sym k
+
+abbrev Plainly : List Token → Bytes → ParseRefusal → Type 0
+Plainly tokens src refusal = (front rest : List Token) × RefusedAt tokens src front rest × NoneTooDeep tokens front × IsRefusalOf src rest refusal
+
+both_plain : (src : Bytes) (tokens : List Token) (a b : ParseRefusal) → Plainly tokens src a → Plainly tokens src b → a ≡ b
+both_plain src tokens a b h k =
+    let place = same_place src tokens h.0 k.0 h.1 k.1 h.2 k.2 in
+    let P : List Token → Type 0 = λ v. IsRefusalOf src v a in
+    same_refusal src k.1 a b (subst P place.1 h.4) k.4
+
+-- a refusal in front of the first token that is nested too deeply stops what is to begin a unit there
+not_both : (src : Bytes) (tokens : List Token) (a : ParseRefusal) (place : ℕ) → Plainly tokens src a → Refuses tokens src (TooDeep place) → ⊥
+not_both src tokens a place h k =
+    let lt : length h.0 < length k.0 = none_says tokens h.0 (length k.0) k.4 h.3 in
+    elim (compare h.0 k.0 h.1 (k.1 ∷ k.2) (sym h.2.parts ∙ k.3)) [
+      inl f ↦ not_further src h.0 k.0 h.1 h.2.stops k.5 f
+    | inr other ↦ (elim other [
+        inl f ↦ (let sum : length h.0 ≡ length k.0 + suc (length f.1) = ap length f.2 ∙ length-append k.0 (f.0 ∷ f.1) in absurd (omega arith))
+      | inr same ↦ (let sum : length h.0 ≡ length k.0 = ap length same.0 in absurd (omega arith)) ]) ]
+
+both_deep : (src : Bytes) (tokens : List Token) (p q : ℕ) → Refuses tokens src (TooDeep p) → Refuses tokens src (TooDeep q) → TooDeep p ≡ TooDeep q
+both_deep src tokens p q h k =
+    let size : length h.0 ≡ length k.0 = some_same (sym h.4 ∙ k.4) in
+    let l1 : length tokens ≡ length h.0 + suc (length h.2) = ap length h.3 ∙ length-append h.0 (h.1 ∷ h.2) in
+    let l2 : length tokens ≡ length k.0 + suc (length k.2) = ap length k.3 ∙ length-append k.0 (k.1 ∷ k.2) in
+    let behind : length (h.1 ∷ h.2) ≡ length (k.1 ∷ k.2) = omega arith in
+    let same = cut_once h.0 k.0 (h.1 ∷ h.2) (k.1 ∷ k.2) (sym h.3 ∙ k.3) behind in
+    ap TooDeep (h.6 ∙ (ap (λ t. t.start) (head_same same.1) ∙ sym k.6))
+
+pub one_refusal_of : (tokens : List Token) (src : Bytes) (a b : ParseRefusal) → Refuses tokens src a → Refuses tokens src b → a ≡ b
+one_refusal_of tokens src Memory b h k = absurd h
+one_refusal_of tokens src (Expected p) Memory h k = absurd k
+one_refusal_of tokens src (LeftOut p x) Memory h k = absurd k
+one_refusal_of tokens src (TooDeep p) Memory h k = absurd k
+one_refusal_of tokens src (Expected p) (Expected q) h k = both_plain src tokens (Expected p) (Expected q) h k
+one_refusal_of tokens src (Expected p) (LeftOut q y) h k = both_plain src tokens (Expected p) (LeftOut q y) h k
+one_refusal_of tokens src (LeftOut p x) (Expected q) h k = both_plain src tokens (LeftOut p x) (Expected q) h k
+one_refusal_of tokens src (LeftOut p x) (LeftOut q y) h k = both_plain src tokens (LeftOut p x) (LeftOut q y) h k
+one_refusal_of tokens src (Expected p) (TooDeep q) h k = absurd (not_both src tokens (Expected p) q h k)
+one_refusal_of tokens src (LeftOut p x) (TooDeep q) h k = absurd (not_both src tokens (LeftOut p x) q h k)
+one_refusal_of tokens src (TooDeep p) (Expected q) h k = absurd (not_both src tokens (Expected q) p k h)
+one_refusal_of tokens src (TooDeep p) (LeftOut q y) h k = absurd (not_both src tokens (LeftOut q y) p k h)
+one_refusal_of tokens src (TooDeep p) (TooDeep q) h k = both_deep src tokens p q h k

@@ -1,8 +1,3 @@
-use Rattle.c_parser.proofs.ParseLaws
-use Rattle.c_parser.proofs.RefusalLaws
-use Rattle.c_parser.proofs.EnoughUnit
-use Rattle.c_parser.proofs.EnoughExpr
-use Rattle.c_parser.proofs.Enough
 use Rattle.c_parser.proofs.UnitLaws.{one_unit_of}
 use Rattle.c_parser.proofs.law.one_unit.Goals as goal
 
