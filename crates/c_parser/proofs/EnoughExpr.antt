@@ -1,45 +1,25 @@
 -- The readers of expressions and declarators do not depend on the depth, where it is at least the number of tokens.
-use Rattle.std.proofs.Common.{◌≡◌, ℕ, zero, suc, ◌+◌, ◌<◌, ◌≤◌, length, arith, length-append, not, ◌&&◌, Bool, true, false, List, [], ◌∷◌, ◌++◌, refl, ap, sym, ◌∙◌, Option, Some, None, option_map, fold, ◌⊎◌, inl, inr}
-use Rattle.std.proofs.lemmas.List.{append-nil, append_assoc}
-use Rattle.c_lexer.specs.declared.token.Token.{Token}
-use Rattle.c_lexer.specs.declared.token.TokenKind.{TokenKind}
-use Rattle.c_lexer.specs.declared.token.TokenKind.TheVariants.{Keyword, Name, Number, Character, Text, Punct}
+use Rattle.std.proofs.Common.{ℕ, zero, suc, ◌≤◌, arith, not, ◌&&◌, true, List, [], ◌∷◌, Some, None}
 use Rattle.c_tree.specs.declared.operator.PrefixOp.{PrefixOp}
-use Rattle.c_tree.specs.declared.operator.BinaryOp.{BinaryOp}
 use Rattle.c_tree.specs.declared.expression.Expr.{Expr}
 use Rattle.c_tree.specs.declared.expression.Declarator.{Declarator}
-use Rattle.c_tree.specs.declared.expression.Direct.{Direct}
 use Rattle.c_tree.specs.declared.expression.Direct.TheVariants as d
 use Rattle.c_tree.specs.declared.expression.Suffix.{Suffix}
 use Rattle.c_tree.specs.declared.specifier.Pointer.{Pointer}
-use Rattle.c_tree.specs.declared.expression.ExprNode.{ExprNode}
 use Rattle.c_parser.specs.declared.start.Start.{Start}
 use Rattle.c_parser.specs.declared.start.Start.TheVariants as at
 use Rattle.c_parser.specs.declared.start.Naming.{Naming}
 use Rattle.c_parser.specs.declared.start.Naming.TheVariants as how
-use Rattle.c_parser.specs.Codes.{Table, code, code_of, one_of, kinds, name, number, character, text, open_bracket, open_paren, star, sizeof_word, step_operators, unary_operators, postfix_operators, specifier_starts, postfix_starts, suffix_starts, declarator_starts, binary_operators, levels}
-use Rattle.c_parser.specs.Spelling.{Spelling, Means, One, Sign, Is, Sequence, Many, Grown, Further, Some_of, Listed, Maybe, In_parens, Located, ◌or◌, line_at}
-use Rattle.c_parser.specs.Nodes.{Bytes, constant_node, at_line}
-use Rattle.c_parser.specs.Grammar.{IsSpecifiers, IsPointer, IsPointers, IsArray, IsParameter, IsFunction, IsSuffix, IsNamed, IsNested, IsBare, IsCore, IsPointerAlone, IsDeclaratorLine, IsTypeName, IsName, IsConstant, IsTexts, IsParenthesized, IsPrimary, IsIndex, IsCall, IsStep, IsPostfix, IsSizeof, IsPrefix, IsUnary, IsTyped, IsCast, IsOperation, IsLevel, IsConditional, IsAssigned, IsAssignment, IsExpression, IsExprLine, ExprAt, DeclaratorAt}
-use Rattle.c_parser.specs.Codes.{close_bracket, close_paren, question, colon, comma, of_table, assignment_operators, abstract_starts, qualifiers}
-use Rattle.c_parser.specs.Nodes.{name_node, text_node, text_of, parenthesized_node, index_node, call_node, postfix_node, prefix_node, sizeof_expr_node, sizeof_type_node, binary_node, conditional_node, cast_node, assign_node, comma_node, is_unary, type_node, parameter_node, direct_name, declarator_node}
-use Rattle.c_parser.specs.Grammar.{IsBranches, operated, IsParameters, IsArguments}
-use Rattle.c_parser.specs.Reading.{Reader, begins, and_then, one, sign, token, pure, stop, choose, grown, listed, behind_comma, in_parens, specifiers, pointers, begins_type, encloses, located, array, parameter, parameters, function, suffix, suffixes, named, nested, bare, core, core_starts, may_end, core_behind, declarator_line, type_name, texts, parenthesized, constant, primary, index, arguments, call, postfix_part, postfix, sizeof, prefix, unary, typed, cast, operation, level, branches, conditional, assigned, assignment, expression, expr_line, expr_at, declarator_at}
-use Rattle.c_parser.proofs.Alike.{Alike, Heads, begins_alike, false_is_not_true}
-use Rattle.c_parser.proofs.Sound.{Reads, reads_is, reads_sequence, reads_choose, reads_token, reads_wider, reads_equal}
-use Rattle.c_parser.proofs.Repeat.{Filled}
-use Rattle.c_parser.proofs.Peek.{Steady, Past, reads_peek, reads_located}
-use Rattle.c_parser.proofs.Past.{past_seq, past_first, past_other, past_this, steady_encloses, encloses_first, steady_type, type_first}
-use Rattle.c_parser.proofs.Starts.{Starts, starts_filled, starts_one, starts_sign, starts_sequence}
-use Rattle.c_parser.proofs.Short.{reads_seq, reads_after, reads_map, reads_if, reads_swap, reads_repeat, reads_one, reads_sign, heads_begins, of}
-use Rattle.c_parser.proofs.Words.{reads_specifiers, reads_pointers, reads_listed, reads_in_parens, starts_comma}
-use Rattle.c_parser.proofs.Unary.{unary_of_conditional, same_word, behind_left}
-use Rattle.c_parser.proofs.ExprStarts.{expr_starts, primary_starts, starts_suffix, starts_bare, starts_named, starts_nested, starts_core, on_line, filled_line, moved, starts_part, starts_unary, starts_typed, starts_cast, starts_level, starts_conditional, starts_in_parens, starts_type_name, starts_primary}
-
+use Rattle.c_parser.specs.Codes.{Table, name, step_operators, unary_operators, suffix_starts, levels}
+use Rattle.c_parser.specs.Nodes.{Bytes}
+use Rattle.c_parser.specs.Grammar.{ExprAt, DeclaratorAt}
+use Rattle.c_parser.specs.Nodes.{declarator_node}
+use Rattle.c_parser.specs.Reading.{Reader, begins, specifiers, pointers, array, parameter, parameters, function, suffix, suffixes, named, nested, bare, core, core_behind, declarator_line, type_name, texts, parenthesized, constant, primary, index, arguments, call, postfix_part, postfix, sizeof, prefix, unary, typed, cast, level, branches, conditional, assigned, assignment, expression, expr_line, expr_at, declarator_at}
+use Rattle.c_parser.proofs.Starts.{starts_filled}
 use Rattle.c_parser.specs.Reading.{specifier, pointer}
 use Rattle.c_parser.proofs.ExprStarts.{starts_expr, starts_declarator}
 use Rattle.c_parser.proofs.FoundAt.{found_at}
-use Rattle.c_parser.proofs.Enough.{Same, same_seq, same_token, same_after, same_behind, same_is, same_map, same_choose, same_grown, same_located, same_fewer, same_listed, same_in_parens, same_parens_here, same_none}
+use Rattle.c_parser.proofs.Enough.{Same, same_seq, same_token, same_after, same_behind, same_is, same_map, same_choose, same_grown, same_located, same_listed, same_in_parens, same_parens_here, same_none}
 
 module _ (src : Bytes) (n : ℕ) (E E' : Start → Reader Expr) (D D' : Naming → Reader Declarator) (he : (start : Start) → Same n (E start) (E' start)) (hd : (naming : Naming) → Same n (D naming) (D' naming)) where
   pub same_specifiers : (k : ℕ) → Same k specifiers specifiers
@@ -193,9 +173,9 @@ pub record SameAt (src : Bytes) (n m : ℕ) : Type 0 where
 pub same_expr_at : (src : Bytes) (n m : ℕ) → n ≤ m → SameAt src n m
 unfolding expr_at declarator_at
 same_expr_at src zero m le = record {
-    expr = λ start. same_none ((found_at src m).expr start) (starts_filled _ (ExprAt src (suc m) start) (starts_expr src (suc m) start));
-    declarator = λ naming. same_none ((found_at src m).declarator naming) (starts_filled _ (DeclaratorAt src (suc m) naming) (starts_declarator src (suc m) naming));
-  }
+  expr = λ start. same_none ((found_at src m).expr start) (starts_filled _ (ExprAt src (suc m) start) (starts_expr src (suc m) start));
+  declarator = λ naming. same_none ((found_at src m).declarator naming) (starts_filled _ (DeclaratorAt src (suc m) naming) (starts_declarator src (suc m) naming));
+}
 same_expr_at src (suc n) zero le = absurd (omega arith)
 same_expr_at src (suc n) (suc m) le =
     let below = same_expr_at src n m (omega arith) in

@@ -1,81 +1,36 @@
 -- The readers of declarations, statements and units do not depend on the depth, where it is at least the number of
 -- tokens.
-use Rattle.std.proofs.Common.{◌≡◌, ℕ, zero, suc, ◌+◌, ◌≤◌, ◌<◌, Bool, true, false, List, [], ◌∷◌, ◌++◌, length, refl, ap, sym, ◌∙◌, subst, Option, Some, None, Result, Ok, Err, ◌⊎◌, inl, inr, not, ◌||◌, ◌==◌, if◌then◌else◌, length-append, arith}
-use Rattle.std.proofs.lemmas.List.{append-nil, append_assoc}
+use Rattle.std.proofs.Common.{◌≡◌, ℕ, zero, suc, ◌≤◌, List, [], ◌∷◌, length, ap, Some, None, arith}
 use Rattle.c_lexer.specs.declared.token.Token.{Token}
-use Rattle.c_lexer.specs.declared.token.TokenKind.TheVariants.{Keyword, Name, Number, Character, Text, Punct}
-use Rattle.c_tree.specs.declared.specifier.Specifier.{Specifier}
 use Rattle.c_tree.specs.declared.expression.Expr.{Expr}
 use Rattle.c_tree.specs.declared.expression.Declarator.{Declarator}
-use Rattle.c_tree.specs.declared.declaration.Declaration.{Declaration}
 use Rattle.c_tree.specs.declared.declaration.Item.{Item}
 use Rattle.c_tree.specs.declared.declaration.Initializer.{Initializer}
-use Rattle.c_tree.specs.declared.declaration.Initializer.TheVariants as i
 use Rattle.c_parser.specs.declared.start.Start.{Start}
 use Rattle.c_parser.specs.declared.start.Start.TheVariants as at
 use Rattle.c_parser.specs.declared.start.Naming.{Naming}
 use Rattle.c_parser.specs.declared.start.Naming.TheVariants as how
-use Rattle.c_parser.specs.Codes.{kinds, code, one_of, of_kind, open_brace, close_brace, semicolon, equals, comma, specifier_starts, declarator_starts, binary_operators}
+use Rattle.c_parser.specs.Codes.{of_kind, open_brace, semicolon, specifier_starts}
 use Rattle.c_parser.specs.Nodes.{Bytes}
 use Rattle.c_parser.specs.StatementNodes.{item_node, declaration_node}
-use Rattle.c_parser.specs.Spelling.{Spelling, One, Is, Sequence, Further, Listed, Maybe, ◌or◌, push}
-use Rattle.c_parser.specs.Grammar.{IsSpecifiers, ExprAt, DeclaratorAt}
-use Rattle.c_parser.specs.Units.{AnyExpr, AnyDeclarator, IsInitializerLine, InitializerAt, IsInitializer, IsGiven, IsItem, IsDeclaration}
-use Rattle.c_parser.specs.Reading.{Reader, grown_from, begins, and_then, one, pure, stop, choose, grown, listed, behind_comma, specifiers, expr_at, declarator_at}
+use Rattle.c_parser.specs.Spelling.{push}
+use Rattle.c_parser.specs.Units.{InitializerAt}
+use Rattle.c_parser.specs.Reading.{Reader, begins, and_then, specifiers, expr_at, declarator_at}
 use Rattle.c_parser.specs.ReadingUnits.{initializer_list, initializer_line, initializer_at, given, item, further_items, declaration}
-use Rattle.c_parser.proofs.Sound.{Reads, reads_is, reads_wider, reads_equal}
-use Rattle.c_parser.proofs.Repeat.{Filled}
-use Rattle.c_parser.proofs.Starts.{Starts, Opens, apart, within, starts_filled, starts_one, starts_sequence, starts_either, starts_wider, begins_with, begins_apart, starts_empty, apart_one, within_left, within_right, within_self}
-use Rattle.c_parser.proofs.Short.{reads_seq, reads_after, reads_map, reads_if, reads_swap, reads_repeat, reads_one, of}
-use Rattle.c_parser.proofs.Words.{starts_specifiers, reads_specifiers, reads_listed, starts_comma}
-use Rattle.c_parser.proofs.FoundAt.{reads_stop, found_at, a_name, name_word, sample_expr}
-use Rattle.c_parser.proofs.ExprStarts.{expr_starts, starts_expr, starts_declarator}
-use Rattle.c_parser.proofs.Again.{Ahead, Off, On, Anything, Again, Clear, again_seq, again_is, again_token, again_after, again_behind, again_map, again_choose, again_if, again_maybe, again_swap, again_repeat, clear_starts, clear_is, clear_or, clear_grown, clear_sequence, again_narrower, again_ahead, again_fewer, off_within}
-use Rattle.c_parser.proofs.ExprAgain.{expr_on, level_on, declarator_on, again_specifiers, again_listed, clear_any, clear_one, off_of}
-use Rattle.c_parser.proofs.AgainAt.{again_at, nothing}
-
-
+use Rattle.c_parser.proofs.Starts.{starts_filled}
 use Rattle.c_tree.specs.declared.statement.Stmt.{Stmt}
-use Rattle.c_tree.specs.declared.statement.ForStart.{ForStart}
 use Rattle.c_tree.specs.declared.statement.ForStart.TheVariants as f
-use Rattle.c_tree.specs.declared.statement.Block.{Block}
-use Rattle.c_tree.specs.declared.statement.BlockItem.{BlockItem}
 use Rattle.c_tree.specs.declared.statement.BlockItem.TheVariants as b
-use Rattle.c_parser.specs.Codes.{open_paren, close_paren, break_word, continue_word, do_word, else_word, for_word, if_word, return_word, while_word}
+use Rattle.c_parser.specs.Codes.{close_paren, break_word, continue_word, do_word, for_word, if_word, return_word, while_word}
 use Rattle.c_parser.specs.StatementNodes.{block_node, block_stmt, empty_stmt, expr_stmt, if_stmt, while_stmt, do_stmt, for_stmt, continue_stmt, break_stmt, return_stmt}
-use Rattle.c_parser.specs.Spelling.{In_parens, Never, Many}
-use Rattle.c_parser.specs.Units.{IsBlockItem, IsBlock, IsBlockStmt, IsExprStmt, IsEmptyStmt, IsElse, IsIf, IsWhile, IsDo, IsOptional, IsForStart, IsFor, IsContinue, IsBreak, IsReturn, Closed, IsStmtLine, StmtAt}
-use Rattle.c_parser.specs.Reading.{in_parens, until, ◌>>=◌, ◌>>◌, ◌<$>◌}
+use Rattle.c_parser.specs.Units.{StmtAt}
 use Rattle.c_parser.specs.ReadingUnits.{optional, condition, for_start, block_item, block_items, block, expr_statement, if_statement, while_statement, do_statement, for_statement, return_statement, break_statement, continue_statement, stmt_line, statement_at}
-use Rattle.c_parser.proofs.Alike.{Alike, Heads, and_then_ok, ok_same, false_is_not_true}
-use Rattle.c_parser.proofs.Sound.{Found, Fault}
-use Rattle.c_parser.proofs.Repeat.{reads_grown}
-use Rattle.c_parser.proofs.Words.{reads_in_parens}
-use Rattle.c_parser.proofs.Declarations.{reads_fewer, any_starts, any_reads, declarator_any_reads, reads_declaration, starts_declaration}
-
-use Rattle.c_parser.proofs.Repeat.{Filled}
-use Rattle.c_parser.proofs.Unary.{same_word}
-use Rattle.c_parser.proofs.Again.{again_grown}
-use Rattle.c_parser.proofs.Past.{begins_other}
-use Rattle.c_parser.proofs.ExprAgain.{clear_on, again_empty, again_parens_here}
-use Rattle.c_parser.proofs.Declarations.{any_again, again_declaration}
-use Rattle.c_parser.proofs.Statements.{stmt_starts, starts_block, starts_stmt_at}
-
-use Rattle.c_tree.specs.declared.unit.Unit.{Unit as TheUnit}
-use Rattle.c_tree.specs.declared.unit.External.{External}
+use Rattle.c_parser.proofs.Statements.{stmt_starts, starts_stmt_at}
 use Rattle.c_tree.specs.declared.unit.External.TheVariants as x
 use Rattle.c_parser.specs.StatementNodes.{function_node, unit_node}
-use Rattle.c_parser.specs.Units.{AnyStmt, IsFunctionDefinition, IsExternal, IsUnit, Derives}
-use Rattle.c_parser.specs.ReadingUnits.{function_body, other_items, external, ended, unit, unit_of}
-use Rattle.c_parser.proofs.Alike.{and_then_err, err_same, ok_is_no_err}
-use Rattle.c_parser.proofs.Sound.{Found, Fault}
-use Rattle.c_parser.proofs.Statements.{reads_block, reads_told_at, same_at, told_at, plain}
-use Rattle.c_parser.proofs.StatementsAgain.{Open, Tail, again_block, again_stmt_at}
-use Rattle.c_parser.proofs.Declarations.{IsFurther, reads_given, again_given, reads_further, again_further, item_on, declarator_any_starts, declarator_any_again, starts_given, to_left, from_left}
-
-use Rattle.c_parser.proofs.Sound.{reads_wider}
-use Rattle.c_parser.proofs.Declarations.{initializer_starts, starts_initializer_at, reads_initializer, reads_initializer_at}
-use Rattle.c_parser.proofs.Statements.{reads_statement_at, StmtOf}
+use Rattle.c_parser.specs.ReadingUnits.{function_body, other_items, external, ended, unit}
+use Rattle.c_parser.proofs.Declarations.{initializer_starts, starts_initializer_at, reads_initializer_at}
+use Rattle.c_parser.proofs.Statements.{reads_statement_at}
 use Rattle.c_parser.proofs.Enough.{Same, same_seq, same_token, same_after, same_behind, same_is, same_map, same_choose, same_grown, same_fewer, same_listed, same_parens_here, same_none}
 use Rattle.c_parser.proofs.EnoughExpr.{same_specifiers, same_expr_at}
 

@@ -1,9 +1,9 @@
 -- What the whole parse answers: the unit, the refusal of the tokens, or that of the first token that is nested too
 -- deeply, whichever place is first.
-use Rattle.std.proofs.Common.{◌≡◌, ℕ, zero, suc, ◌+◌, ◌-◌, ◌≤◌, ◌<◌, Bool, true, false, List, [], ◌∷◌, ◌++◌, length, take, drop, get_or, refl, ap, sym, ◌∙◌, subst, Option, Some, None, Result, Ok, Err, ◌⊎◌, inl, inr, if◌then◌else◌, length-append, arith}
+use Rattle.std.proofs.Common.{◌≡◌, ℕ, zero, suc, ◌+◌, ◌-◌, ◌<◌, Bool, true, false, List, [], ◌∷◌, ◌++◌, length, take, drop, get_or, refl, ap, sym, ◌∙◌, subst, Option, Some, None, Ok, Err, ◌⊎◌, inl, inr, if◌then◌else◌, length-append, arith}
 use Rattle.std.specs.Prelude.{IfSome}
 use Rattle.std.proofs.lemmas.List.{append-nil, append_assoc, take-append-drop, length-take-le}
-use Rattle.std.proofs.Math.Seq.{drop-append_seam, take-append_seam}
+use Rattle.std.proofs.Math.Seq.{drop-append_seam}
 use Rattle.c_lexer.specs.declared.token.Token.{Token}
 use Rattle.c_tree.specs.declared.unit.Unit.{Unit as TheUnit}
 use Rattle.c_parser.specs.declared.refusal.ParseRefusal.{ParseRefusal}
@@ -14,7 +14,7 @@ use Rattle.c_parser.specs.Nesting.{first_too_deep}
 use Rattle.c_parser.specs.Refusals.{BeginsUnit, Stops, RefusedAt, is_left_out, IsRefusalOf, NoneTooDeep, Refuses}
 use Rattle.c_parser.specs.ReadingUnits.{unit_of}
 use Rattle.c_parser.proofs.Alike.{head_same, tail_same, some_same}
-use Rattle.c_parser.proofs.UnitLaws.{unit_of_found, unit_of_derived}
+use Rattle.c_parser.proofs.UnitLaws.{unit_of_found}
 use Rattle.c_parser.proofs.RefusalLaws.{unit_of_refused, refusal_is_no_unit, cut_once}
 
 -- ---- beginnings
@@ -42,17 +42,17 @@ no_too_deep : (src : Bytes) (rest : List Token) (place : ℕ) → IsRefusalOf sr
 no_too_deep src [] place e = cc
 no_too_deep src (t ∷ rest) place e = by_kind (is_left_out t.kind) e
   where
-  by_kind : (b : Bool) → TooDeep place ≡ (if b then LeftOut t.start t.kind else Expected t.start) → ⊥
-  by_kind true d = cc
-  by_kind false d = cc
+    by_kind : (b : Bool) → TooDeep place ≡ (if b then LeftOut t.start t.kind else Expected t.start) → ⊥
+    by_kind true d = cc
+    by_kind false d = cc
 
 no_memory : (src : Bytes) (rest : List Token) → IsRefusalOf src rest Memory → ⊥
 no_memory src [] e = cc
 no_memory src (t ∷ rest) e = by_kind (is_left_out t.kind) e
   where
-  by_kind : (b : Bool) → Memory ≡ (if b then LeftOut t.start t.kind else Expected t.start) → ⊥
-  by_kind true d = cc
-  by_kind false d = cc
+    by_kind : (b : Bool) → Memory ≡ (if b then LeftOut t.start t.kind else Expected t.start) → ⊥
+    by_kind true d = cc
+    by_kind false d = cc
 
 pub refuses_at : (tokens : List Token) (src : Bytes) (refusal : ParseRefusal) (front rest : List Token) → RefusedAt tokens src front rest → NoneTooDeep tokens front → IsRefusalOf src rest refusal → Refuses tokens src refusal
 refuses_at tokens src (Expected place) front rest h n e = (front, rest, h, n, e)
@@ -129,8 +129,8 @@ refuses_no_unit tokens src (Expected place) u h none d = refusal_is_no_unit src 
 refuses_no_unit tokens src (LeftOut place kind) u h none d = refusal_is_no_unit src tokens h.0 h.1 u h.2 d
 refuses_no_unit tokens src (TooDeep place) u h none d = no_deep (sym none ∙ h.4)
   where
-  no_deep : {n : ℕ} → Path (Option ℕ) None (Some n) → ⊥
-  no_deep e = cc
+    no_deep : {n : ℕ} → Path (Option ℕ) None (Some n) → ⊥
+    no_deep e = cc
 refuses_no_unit tokens src Memory u h none d = h
 
 pub refused_begins : (tokens : List Token) (src : Bytes) (refusal : ParseRefusal) → Refuses tokens src refusal → (front rest : List Token) × (tokens ≡ front ++ rest) × BeginsUnit front src
@@ -150,17 +150,19 @@ compare [] [] r s e = inr (inr (refl, e))
 compare [] (u ∷ g) r s e = inl (u, g, refl, (g ++ s, e))
 compare (t ∷ f) [] r s e = inr (inl (t, f, refl, (f ++ r, sym e)))
 compare (t ∷ f) (u ∷ g) r s e = elim (compare f g r s (tail_same e)) [
-      inl h ↦ inl (h.0, h.1, ap (λ v. v ∷ g) (sym (head_same e)) ∙ ap (λ v. t ∷ v) h.2, h.3)
-    | inr other ↦ (elim other [
-        inl h ↦ inr (inl (h.0, h.1, ap (λ v. v ∷ f) (head_same e) ∙ ap (λ v. u ∷ v) h.2, h.3))
-      | inr same ↦ inr (inr (ap (λ v. v ∷ f) (head_same e) ∙ ap (λ v. u ∷ v) same.0, same.1)) ]) ]
+  | inl h ↦ inl (h.0, h.1, ap (λ v. v ∷ g) (sym (head_same e)) ∙ ap (λ v. t ∷ v) h.2, h.3)
+  | inr other ↦ (elim other [
+    | inl h ↦ inr (inl (h.0, h.1, ap (λ v. v ∷ f) (head_same e) ∙ ap (λ v. u ∷ v) h.2, h.3))
+    | inr same ↦ inr (inr (ap (λ v. v ∷ f) (head_same e) ∙ ap (λ v. u ∷ v) same.0, same.1))
+  ])
+]
 
 -- no beginning lies behind the place of a refusal
 not_further : (src : Bytes) (f g r : List Token) → Stops f src r → BeginsUnit g src → Further f g r → ⊥
 not_further src f g [] stops b h = nothing_left h.3.1
   where
-  nothing_left : {u : Token} {v : List Token} → [] ≡ u ∷ v → ⊥
-  nothing_left e = cc
+    nothing_left : {u : Token} {v : List Token} → [] ≡ u ∷ v → ⊥
+    nothing_left e = cc
 not_further src f g (t ∷ r) stops b h =
     let same : t ≡ h.0 = head_same h.3.1 in
     let P : List Token → Type 0 = λ v. BeginsUnit v src in
@@ -169,10 +171,12 @@ not_further src f g (t ∷ r) stops b h =
 
 same_place : (src : Bytes) (tokens f g r s : List Token) → RefusedAt tokens src f r → RefusedAt tokens src g s → (f ≡ g) × (r ≡ s)
 same_place src tokens f g r s h k = elim (compare f g r s (sym h.parts ∙ k.parts)) [
-      inl a ↦ absurd (not_further src f g r h.stops k.begins a)
-    | inr other ↦ (elim other [
-        inl b ↦ absurd (not_further src g f s k.stops h.begins b)
-      | inr same ↦ same ]) ]
+  | inl a ↦ absurd (not_further src f g r h.stops k.begins a)
+  | inr other ↦ (elim other [
+    | inl b ↦ absurd (not_further src g f s k.stops h.begins b)
+    | inr same ↦ same
+  ])
+]
 
 same_refusal : (src : Bytes) (rest : List Token) (a b : ParseRefusal) → IsRefusalOf src rest a → IsRefusalOf src rest b → a ≡ b
 same_refusal src [] a b h k = h ∙ sym k
@@ -192,10 +196,12 @@ not_both : (src : Bytes) (tokens : List Token) (a : ParseRefusal) (place : ℕ) 
 not_both src tokens a place h k =
     let lt : length h.0 < length k.0 = none_says tokens h.0 (length k.0) k.4 h.3 in
     elim (compare h.0 k.0 h.1 (k.1 ∷ k.2) (sym h.2.parts ∙ k.3)) [
-      inl f ↦ not_further src h.0 k.0 h.1 h.2.stops k.5 f
-    | inr other ↦ (elim other [
-        inl f ↦ (let sum : length h.0 ≡ length k.0 + suc (length f.1) = ap length f.2 ∙ length-append k.0 (f.0 ∷ f.1) in absurd (omega arith))
-      | inr same ↦ (let sum : length h.0 ≡ length k.0 = ap length same.0 in absurd (omega arith)) ]) ]
+      | inl f ↦ not_further src h.0 k.0 h.1 h.2.stops k.5 f
+      | inr other ↦ (elim other [
+        | inl f ↦ (let sum : length h.0 ≡ length k.0 + suc (length f.1) = ap length f.2 ∙ length-append k.0 (f.0 ∷ f.1) in absurd (omega arith))
+        | inr same ↦ (let sum : length h.0 ≡ length k.0 = ap length same.0 in absurd (omega arith))
+      ])
+    ]
 
 both_deep : (src : Bytes) (tokens : List Token) (p q : ℕ) → Refuses tokens src (TooDeep p) → Refuses tokens src (TooDeep q) → TooDeep p ≡ TooDeep q
 both_deep src tokens p q h k =

@@ -1,80 +1,23 @@
 -- Where the reader of units refuses, the tokens stop being a unit.
-use Rattle.std.proofs.Common.{◌≡◌, ℕ, zero, suc, ◌+◌, ◌≤◌, ◌<◌, Bool, true, false, List, [], ◌∷◌, ◌++◌, length, refl, ap, sym, ◌∙◌, subst, Option, Some, None, Result, Ok, Err, ◌⊎◌, inl, inr, not, ◌||◌, ◌==◌, if◌then◌else◌, length-append, arith}
+use Rattle.std.proofs.Common.{◌≡◌, ℕ, suc, ◌+◌, ◌≤◌, List, [], ◌∷◌, ◌++◌, length, refl, ap, sym, ◌∙◌, subst, Ok, Err, inl, inr, length-append, arith}
 use Rattle.std.proofs.lemmas.List.{append-nil, append_assoc}
 use Rattle.c_lexer.specs.declared.token.Token.{Token}
-use Rattle.c_lexer.specs.declared.token.TokenKind.TheVariants.{Keyword, Name, Number, Character, Text, Punct}
-use Rattle.c_tree.specs.declared.specifier.Specifier.{Specifier}
-use Rattle.c_tree.specs.declared.expression.Expr.{Expr}
-use Rattle.c_tree.specs.declared.expression.Declarator.{Declarator}
-use Rattle.c_tree.specs.declared.declaration.Declaration.{Declaration}
-use Rattle.c_tree.specs.declared.declaration.Item.{Item}
-use Rattle.c_tree.specs.declared.declaration.Initializer.{Initializer}
-use Rattle.c_tree.specs.declared.declaration.Initializer.TheVariants as i
-use Rattle.c_parser.specs.declared.start.Start.{Start}
-use Rattle.c_parser.specs.declared.start.Start.TheVariants as at
-use Rattle.c_parser.specs.declared.start.Naming.{Naming}
-use Rattle.c_parser.specs.declared.start.Naming.TheVariants as how
-use Rattle.c_parser.specs.Codes.{kinds, code, one_of, of_kind, open_brace, close_brace, semicolon, equals, comma, specifier_starts, declarator_starts, binary_operators}
+use Rattle.c_parser.specs.Codes.{specifier_starts}
 use Rattle.c_parser.specs.Nodes.{Bytes}
-use Rattle.c_parser.specs.StatementNodes.{item_node, declaration_node}
-use Rattle.c_parser.specs.Spelling.{Spelling, One, Is, Sequence, Further, Listed, Maybe, ◌or◌, push}
-use Rattle.c_parser.specs.Grammar.{IsSpecifiers, ExprAt, DeclaratorAt}
-use Rattle.c_parser.specs.Units.{AnyExpr, AnyDeclarator, IsInitializerLine, InitializerAt, IsInitializer, IsGiven, IsItem, IsDeclaration}
-use Rattle.c_parser.specs.Reading.{Reader, grown_from, begins, and_then, one, pure, stop, choose, grown, listed, behind_comma, specifiers, expr_at, declarator_at}
-use Rattle.c_parser.specs.ReadingUnits.{initializer_list, initializer_line, initializer_at, given, item, further_items, declaration}
-use Rattle.c_parser.proofs.Sound.{Reads, reads_is, reads_wider, reads_equal}
-use Rattle.c_parser.proofs.Repeat.{Filled}
-use Rattle.c_parser.proofs.Starts.{Starts, Opens, apart, within, starts_filled, starts_one, starts_sequence, starts_either, starts_wider, begins_with, begins_apart, starts_empty, apart_one, within_left, within_right, within_self}
-use Rattle.c_parser.proofs.Short.{reads_seq, reads_after, reads_map, reads_if, reads_swap, reads_repeat, reads_one, of}
-use Rattle.c_parser.proofs.Words.{starts_specifiers, reads_specifiers, reads_listed, starts_comma}
-use Rattle.c_parser.proofs.FoundAt.{reads_stop, found_at, a_name, name_word, sample_expr}
-use Rattle.c_parser.proofs.ExprStarts.{expr_starts, starts_expr, starts_declarator}
-use Rattle.c_parser.proofs.Again.{Ahead, Off, On, Anything, Again, Clear, again_seq, again_is, again_token, again_after, again_behind, again_map, again_choose, again_if, again_maybe, again_swap, again_repeat, clear_starts, clear_is, clear_or, clear_grown, clear_sequence, again_narrower, again_ahead, again_fewer, off_within}
-use Rattle.c_parser.proofs.ExprAgain.{expr_on, level_on, declarator_on, again_specifiers, again_listed, clear_any, clear_one, off_of}
-use Rattle.c_parser.proofs.AgainAt.{again_at, nothing}
-
-
-use Rattle.c_tree.specs.declared.statement.Stmt.{Stmt}
-use Rattle.c_tree.specs.declared.statement.ForStart.{ForStart}
-use Rattle.c_tree.specs.declared.statement.ForStart.TheVariants as f
-use Rattle.c_tree.specs.declared.statement.Block.{Block}
-use Rattle.c_tree.specs.declared.statement.BlockItem.{BlockItem}
-use Rattle.c_tree.specs.declared.statement.BlockItem.TheVariants as b
-use Rattle.c_parser.specs.Codes.{open_paren, close_paren, break_word, continue_word, do_word, else_word, for_word, if_word, return_word, while_word}
-use Rattle.c_parser.specs.StatementNodes.{block_node, block_stmt, empty_stmt, expr_stmt, if_stmt, while_stmt, do_stmt, for_stmt, continue_stmt, break_stmt, return_stmt}
-use Rattle.c_parser.specs.Spelling.{In_parens, Never, Many}
-use Rattle.c_parser.specs.Units.{IsBlockItem, IsBlock, IsBlockStmt, IsExprStmt, IsEmptyStmt, IsElse, IsIf, IsWhile, IsDo, IsOptional, IsForStart, IsFor, IsContinue, IsBreak, IsReturn, Closed, IsStmtLine, StmtAt}
-use Rattle.c_parser.specs.Reading.{in_parens, until, ◌>>=◌, ◌>>◌, ◌<$>◌}
-use Rattle.c_parser.specs.ReadingUnits.{optional, condition, for_start, block_item, block_items, block, expr_statement, if_statement, while_statement, do_statement, for_statement, return_statement, break_statement, continue_statement, stmt_line, statement_at}
-use Rattle.c_parser.proofs.Alike.{Alike, Heads, and_then_ok, ok_same, false_is_not_true}
-use Rattle.c_parser.proofs.Sound.{Found, Fault}
-use Rattle.c_parser.proofs.Repeat.{reads_grown}
-use Rattle.c_parser.proofs.Words.{reads_in_parens}
-use Rattle.c_parser.proofs.Declarations.{reads_fewer, any_starts, any_reads, declarator_any_reads, reads_declaration, starts_declaration}
-
-use Rattle.c_parser.proofs.Repeat.{Filled}
-use Rattle.c_parser.proofs.Unary.{same_word}
-use Rattle.c_parser.proofs.Again.{again_grown}
-use Rattle.c_parser.proofs.Past.{begins_other}
-use Rattle.c_parser.proofs.ExprAgain.{clear_on, again_empty, again_parens_here}
-use Rattle.c_parser.proofs.Declarations.{any_again, again_declaration}
-use Rattle.c_parser.proofs.Statements.{stmt_starts, starts_block, starts_stmt_at}
-
+use Rattle.c_parser.specs.Spelling.{Further, push}
+use Rattle.c_parser.specs.Reading.{Reader, begins, and_then, grown, expr_at, declarator_at}
+use Rattle.c_parser.proofs.Alike.{Alike}
+use Rattle.c_parser.proofs.Sound.{Fault}
 use Rattle.c_tree.specs.declared.unit.Unit.{Unit as TheUnit}
 use Rattle.c_tree.specs.declared.unit.External.{External}
-use Rattle.c_tree.specs.declared.unit.External.TheVariants as x
-use Rattle.c_parser.specs.StatementNodes.{function_node, unit_node}
-use Rattle.c_parser.specs.Units.{AnyStmt, IsFunctionDefinition, IsExternal, IsUnit, Derives}
-use Rattle.c_parser.specs.ReadingUnits.{function_body, other_items, external, ended, unit, unit_of}
+use Rattle.c_parser.specs.StatementNodes.{unit_node}
+use Rattle.c_parser.specs.Units.{IsExternal, IsUnit, Derives}
+use Rattle.c_parser.specs.ReadingUnits.{external, ended, unit, unit_of}
 use Rattle.c_parser.proofs.Alike.{and_then_err, err_same, ok_is_no_err}
-use Rattle.c_parser.proofs.Sound.{Found, Fault}
-use Rattle.c_parser.proofs.Statements.{reads_block, reads_told_at, same_at, told_at, plain}
-use Rattle.c_parser.proofs.StatementsAgain.{Open, Tail, again_block, again_stmt_at}
-use Rattle.c_parser.proofs.Declarations.{IsFurther, reads_given, again_given, reads_further, again_further, item_on, declarator_any_starts, declarator_any_again, starts_given, to_left, from_left}
-
-use Rattle.c_parser.specs.Refusals.{BeginsUnit, Stops, RefusedAt}
+use Rattle.c_parser.proofs.Sound.{Fault}
+use Rattle.c_parser.specs.Refusals.{Stops, RefusedAt}
 use Rattle.c_parser.proofs.Alike.{head_same, tail_same}
-use Rattle.c_parser.proofs.UnitLaws.{reads_externals, unit_again, unit_of_derived, empty_unit, nothing_read}
+use Rattle.c_parser.proofs.UnitLaws.{reads_externals, unit_again, nothing_read}
 use Rattle.c_parser.proofs.EnoughUnit.{same_unit}
 
 -- ---- a refusal of the whole
@@ -99,15 +42,32 @@ module _ (src : Bytes) (m : ℕ) where
   pub unit_fault : (w : List Token) (left : ℕ) → length w ≤ suc m → U w ≡ Err left → Fault (IsUnit src) U w left
   unfolding unit
   unit_fault w left few e = elim (and_then_err (X w) ending left e) [
-      inl d ↦
+    | inl d ↦
         (let one = (reads_externals src m).fault w left few d in
-        record { front = one.front; rest = one.rest; parts = one.parts; at = one.at; more = one.more; whole = unit_node one.whole; viable = unit_word src one.whole (one.front ++ one.more) one.viable;
-          same = λ t r other d. ap (λ v. and_then v ending) (one.same t r other d) })
+        record {
+          front = one.front;
+          rest = one.rest;
+          parts = one.parts;
+          at = one.at;
+          more = one.more;
+          whole = unit_node one.whole;
+          viable = unit_word src one.whole (one.front ++ one.more) one.viable;
+          same = λ t r other d. ap (λ v. and_then v ending) (one.same t r other d);
+        })
     | inr p ↦
         (let one = (reads_externals src m).found w p.0.0 p.0.1 p.1 in
         let end = ended_err (unit_node p.0.0) p.0.1 left p.2 in
-        record { front = one.front; rest = p.0.1; parts = one.parts; at = end.3; more = []; whole = unit_node p.0.0; viable = unit_word src p.0.0 (one.front ++ []) (let P : List Token → Type 0 = λ v. Further (IsExternal src) [] p.0.0 v in subst P (sym (append-nil one.front)) one.by);
-          same = λ t r other d. ap (λ v. and_then v ending) (one.same (t ∷ other) (let P : List Token → Type 0 = λ v. Alike v (t ∷ other) in subst P (sym d) refl)) }) ]
+        record {
+          front = one.front;
+          rest = p.0.1;
+          parts = one.parts;
+          at = end.3;
+          more = [];
+          whole = unit_node p.0.0;
+          viable = unit_word src p.0.0 (one.front ++ []) (let P : List Token → Type 0 = λ v. Further (IsExternal src) [] p.0.0 v in subst P (sym (append-nil one.front)) one.by);
+          same = λ t r other d. ap (λ v. and_then v ending) (one.same (t ∷ other) (let P : List Token → Type 0 = λ v. Alike v (t ∷ other) in subst P (sym d) refl));
+        })
+  ]
 
 -- two ways to cut a list with as much behind are one
 pub cut_once : (f g r s : List Token) → f ++ r ≡ g ++ s → length r ≡ length s → (f ≡ g) × (r ≡ s)
