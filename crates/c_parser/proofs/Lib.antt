@@ -1,6 +1,3 @@
-pub mod Tables
-pub mod Loops
-pub mod Leaves
 pub mod Alike
 pub mod Sound
 pub mod Repeat

@@ -8,7 +8,3 @@ pub mod Nesting
 pub mod Refusals
 pub mod Reading
 pub mod ReadingUnits
-pub mod Outcome
-pub mod Parts
-pub mod UnitOutcome
-pub mod UnitParts
