@@ -1,0 +1,10 @@
+pub mod Codes
+pub mod Nodes
+pub mod StatementNodes
+pub mod Spelling
+pub mod Grammar
+pub mod Units
+pub mod Nesting
+pub mod Refusals
+pub mod Reading
+pub mod ReadingUnits
