@@ -1,5 +1,5 @@
 -- What memory and the outside do, by the kind of access.
-use Rattle.std.proofs.Common.{◌≡◌, ℕ, List, [], Option, Some, None}
+use Rattle.std.proofs.Common.{ℕ, [], Option, Some, None}
 use Rattle.srmt_base.specs.declared.trap.SourceEnd.{SourceEnd}
 use Rattle.srmt_base.specs.Memory.{read_of, write_of}
 use Rattle.mid_code.specs.declared.program.MidProgram.{MidProgram}

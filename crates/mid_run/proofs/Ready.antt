@@ -1,6 +1,6 @@
 -- What an instruction of a valid program needs is there.
-use Rattle.std.proofs.Common.{◌≡◌, ◌≢◌, ℕ, zero, suc, ◌+◌, ◌<◌, ◌≤◌, ◌^◌, List, [], ◌∷◌, length, Option, Some, None, Bool, true, false, refl, sym, ap, ◌∙◌, subst, arith}
-use Rattle.std.specs.Prelude.{All, IsTrue, ◌&&◌, ◌||◌, not, ◌==◌, nat_le, map, slice_get, if◌then◌else◌}
+use Rattle.std.proofs.Common.{◌≡◌, ℕ, zero, suc, ◌<◌, ◌≤◌, ◌^◌, List, [], ◌∷◌, length, Option, Some, None, Bool, true, false, refl, sym, ap, ◌∙◌, arith}
+use Rattle.std.specs.Prelude.{All, not, ◌==◌, nat_le, map, slice_get, if◌then◌else◌}
 use Rattle.std.proofs.lemmas.Bool.{and_parts, not-false, eqb-true, eqb-false, leb-false}
 use Rattle.srmt_base.specs.declared.ty.Ty.{Ty}
 use Rattle.srmt_base.specs.declared.ty.Ty.TheVariants.{Bool as BoolTy, Char, SChar, UChar, Short, UShort, Int, UInt}
@@ -9,23 +9,22 @@ use Rattle.srmt_base.specs.Arith.{is_comparison}
 use Rattle.mid_code.specs.declared.program.RegisterKind.{RegisterKind}
 use Rattle.mid_code.specs.declared.program.MidFunction.{MidFunction}
 use Rattle.mid_code.specs.declared.program.MidProgram.{MidProgram}
-use Rattle.mid_code.specs.declared.registers.Registers.{Registers}
 use Rattle.mid_code.specs.declared.mid.Mid.{Mid}
 use Rattle.mid_code.specs.declared.mid.Mid.TheVariants.{Const, Move, Arith, Conv, PtrAdd, PtrDiff, PtrCmp, GlobAddr, FunAddr, Load, Store, VLoad, VStore, Open, Close, Jump, JumpZ, JumpN, Turn, Call, CallPtr, Return, Put, Get, Exit}
 use Rattle.mid_code.specs.declared.access.Access.TheVariants.{Closes}
 use Rattle.mid_code.specs.Registers.{registers_list}
 use Rattle.mid_code.specs.Program.{function_at}
 use Rattle.mid_code.specs.declared.operands.Operand.{Operand}
-use Rattle.mid_code.specs.Operands.{either, number, address, operands}
+use Rattle.mid_code.specs.Operands.{either, number, address}
 use Rattle.mid_code.specs.Rules.{has_outside, is_static, is_callable, is_wide, misfits_type, type_of}
 use Rattle.mid_code.specs.Valid.{IsValid}
-use Rattle.mid_code.specs.Machine.{Opened, Activation, Machine, Does, Goes, Traps, Reaches, Lost, register, part_of_function, is_of_type, is_callee, leaves, closes, act}
+use Rattle.mid_code.specs.Machine.{Opened, Activation, Machine, Reaches, Lost, register, part_of_function, is_of_type, is_callee, leaves, closes, act}
 use Rattle.mid_code.specs.Fits.{IsMachine, AreBelow}
-use Rattle.mid_code.proofs.Keeping.{KeepsRules, neither, keeps}
-use Rattle.mid_code.proofs.Acting.{Keeps, DoesFit, act_fits}
-use Rattle.mid_code.proofs.Naming.{static_small, callee_of, function_kept, args_room, whole}
+use Rattle.mid_code.proofs.Keeping.{neither}
+use Rattle.mid_code.proofs.Acting.{Keeps, DoesFit}
+use Rattle.mid_code.proofs.Naming.{static_small, callee_of, function_kept, args_room}
 use Rattle.mid_run.specs.Kept.{TakesResult}
-use Rattle.mid_run.specs.Acts.{IsThere, CanEnter, IsNewest, CanAct}
+use Rattle.mid_run.specs.Acts.{CanEnter, IsNewest, CanAct}
 
 -- the first register that an instruction names, and the others
 there : (kinds : List RegisterKind) (n : ℕ) (operand : Operand) (rest : List Operand) → n ≡ length kinds → has_outside kinds (operand ∷ rest) ≡ false → (operand.register < n) × (has_outside kinds rest ≡ false)

@@ -1,12 +1,12 @@
 -- Parts of rows, and the activations that they are.
-use Rattle.std.proofs.Common.{ℕ, ◌+◌, ◌-◌, ◌*◌, ◌^◌, ◌<◌, ◌≤◌, ◌≡◌, zero, suc, Bool, true, false, List, [], ◌∷◌, ◌++◌, length, map, take, drop, replicate, get_or, slice_index, set, Some, None, refl, ap, sym, subst, ◌∙◌, arith}
+use Rattle.std.proofs.Common.{ℕ, ◌+◌, ◌-◌, ◌*◌, ◌^◌, ◌<◌, ◌≤◌, ◌≡◌, zero, suc, Bool, true, false, List, [], ◌∷◌, ◌++◌, length, map, take, drop, replicate, get_or, slice_index, set, refl, ap, sym, subst, ◌∙◌, arith}
 use Rattle.std.specs.Prelude.{reverse, All}
 use Rattle.std.proofs.lemmas.List.{length-take, length-take-le, length-drop, length-append, length-replicate, length-map, length-reverse, length-set, take_all, take_more, map_push, drop-append-le, take-append-le, drop-take, take-take, take-set-le, drop-set-add, reverse-append, append_assoc, drop_at, get_or-take, get_or-drop}
 use Rattle.std.proofs.Math.Seq.{take-set-lt}
 use Rattle.std.proofs.lemmas.List.Elements.{All-set, All-take, All-append, All-replicate}
 use Rattle.srmt_base.specs.Memory.{part_if}
 use Rattle.mid_code.specs.Fits.{open_count}
-use Rattle.mid_code.specs.Machine.{activations, Activation, Budget, Machine, Opened, given, given_object, passed_close, budget_of, leaves, entered, register, Goes}
+use Rattle.mid_code.specs.Machine.{activations, Activation, Opened, given, given_object, passed_close, budget_of, leaves, entered, register, Goes}
 use Rattle.mid_run.specs.declared.frames.Line.{Line}
 use Rattle.mid_run.specs.declared.frames.Budgets.{Budgets}
 use Rattle.mid_run.specs.declared.frames.Left.{Left}

@@ -1,5 +1,5 @@
 -- Many steps of the machine.
-use Rattle.std.proofs.Common.{◌≡◌, ℕ, ◌+◌, ◌<◌, List, [], ◌++◌, None, refl, sym, ap, ◌∙◌, arith, append-nil}
+use Rattle.std.proofs.Common.{◌≡◌, ℕ, ◌<◌, List, [], ◌++◌, None, refl, sym, ap, ◌∙◌, append-nil}
 use Rattle.srmt_base.specs.declared.event.Event.{Event}
 use Rattle.mid_code.specs.declared.program.MidProgram.{MidProgram}
 use Rattle.mid_code.specs.Valid.{IsValid}

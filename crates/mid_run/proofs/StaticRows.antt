@@ -1,14 +1,13 @@
 -- Static objects are set up one after another.
-use Rattle.std.proofs.Common.{◌≡◌, ◌≢◌, ℕ, zero, suc, ◌+◌, ◌-◌, ◌*◌, ◌/◌, ◌%◌, ◌<◌, ◌≤◌, ◌^◌, List, [], ◌∷◌, ◌++◌, length, map, take, drop, replicate, get_or, set, Option, Some, None, Result, Ok, Err, Bool, true, false, cond, eqb, leb, refl, sym, ap, ◌∙◌, subst, arith}
-use Rattle.std.specs.Prelude.{All, find, ◌==◌, ◌&&◌, nat_le, nat_lt, sum_by, slice_index, if◌then◌else◌}
+use Rattle.std.proofs.Common.{◌≡◌, ℕ, zero, suc, ◌+◌, ◌-◌, ◌*◌, ◌/◌, ◌%◌, ◌<◌, ◌≤◌, List, [], ◌∷◌, ◌++◌, length, map, take, replicate, get_or, set, Some, None, Ok, true, false, cond, eqb, leb, refl, sym, ap, ◌∙◌, subst, arith}
+use Rattle.std.specs.Prelude.{All, find, ◌==◌, nat_lt, sum_by}
 use Rattle.std.proofs.lemmas.Bool.{ne_eqb, eq-eqb, le-ltb, lt-leb}
-use Rattle.std.proofs.lemmas.List.{length-take, length-take-le, length-append, length-replicate, map-append, take_more, take_all, append_assoc, set_at}
+use Rattle.std.proofs.lemmas.List.{length-take-le, length-append, length-replicate, map-append, take_more, take_all, append_assoc, set_at}
 use Rattle.std.proofs.lemmas.List.Sums.{sum_by-cons, sum_by_more_le}
 use Rattle.std.proofs.lemmas.List.Elements.{All-take}
 use Rattle.std.proofs.lemmas.Nat.{div-mul-add, div-add-mod'}
-use Rattle.srmt_base.specs.declared.trap.Trap.{Trap}
-use Rattle.srmt_base.specs.Objects.{Object, Objects, object_part, offset_part, live_at, live_cells, access_in, access_of, written_in, written, set_up_of, add_of, begun}
-use Rattle.srmt_base.specs.Memory.{Part, part_if, first_number}
+use Rattle.srmt_base.specs.Objects.{Object, Objects, object_part, live_cells, access_of, written_in, set_up_of, add_of}
+use Rattle.srmt_base.specs.Memory.{Part, first_number}
 use Rattle.mid_code.specs.declared.program.Static.{Static}
 use Rattle.mid_code.specs.Start.{static_cells, static_object, static_objects, started_objects}
 use Rattle.mid_run.specs.Statics.{IsSound, with_static}

@@ -1,5 +1,5 @@
 -- One step of the machine is one step of the meaning.
-use Rattle.std.proofs.Common.{◌≡◌, ℕ, suc, ◌+◌, ◌<◌, ◌≤◌, ◌^◌, List, [], ◌∷◌, length, drop, Option, Some, None, refl, sym, ap, ◌∙◌, subst, arith}
+use Rattle.std.proofs.Common.{◌≡◌, ℕ, suc, ◌+◌, ◌<◌, ◌≤◌, ◌^◌, List, [], ◌∷◌, length, Option, Some, None, refl, sym, ap, ◌∙◌, subst, arith}
 use Rattle.std.specs.Prelude.{All, sum_by}
 use Rattle.std.proofs.lemmas.List.Sums.{sum_by-cons}
 use Rattle.srmt_base.specs.declared.event.Event.{Event}
@@ -13,7 +13,7 @@ use Rattle.mid_code.specs.declared.access.Access.{Access}
 use Rattle.mid_code.specs.Program.{line_at}
 use Rattle.mid_code.specs.Valid.{IsValid}
 use Rattle.mid_code.specs.Machine.{Does, Goes, Traps, Reaches, act}
-use Rattle.mid_code.specs.Meaning.{State, On, Ends, reach, step, step_by}
+use Rattle.mid_code.specs.Meaning.{State, reach, step, step_by}
 use Rattle.mid_code.specs.Fits.{Fits, IsPart}
 use Rattle.mid_code.proofs.Keeping.{keeps}
 use Rattle.mid_code.proofs.Acting.{act_fits}

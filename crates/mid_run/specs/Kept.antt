@@ -1,5 +1,5 @@
 -- How the live activations of a machine are kept in flat rows.
-use Rattle.std.specs.Prelude.{◌≡◌, ℕ, ◌+◌, ◌-◌, ◌*◌, ◌^◌, ◌<◌, ◌≤◌, ◌==◌, List, [], ◌∷◌, ◌++◌, length, map, take, drop, reverse, replicate, slice_index, slice_set, All, Bool, true, false, Option, Some, None}
+use Rattle.std.specs.Prelude.{◌≡◌, ℕ, ◌+◌, ◌-◌, ◌*◌, ◌^◌, ◌<◌, ◌≤◌, List, [], ◌∷◌, ◌++◌, length, map, take, drop, reverse, replicate, All, Bool, true, false, Option, Some, None}
 use Rattle.mid_code.specs.Machine.{Opened, Activation, Budget, Machine}
 use Rattle.mid_run.specs.declared.frames.Line.{Line}
 use Rattle.mid_run.specs.declared.frames.Left.{Left}

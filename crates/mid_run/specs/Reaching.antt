@@ -1,5 +1,5 @@
 -- What memory and the outside do for an instruction.
-use Rattle.std.specs.Prelude.{◌≡◌, ℕ, ◌%◌, ◌^◌, ◌<◌, ◌≤◌, ◌+◌, List, [], ◌∷◌, length, Option, Some, None, Result, Ok, Err, false, nat_lt, if◌then◌else◌}
+use Rattle.std.specs.Prelude.{◌≡◌, ℕ, ◌%◌, ◌≤◌, ◌+◌, List, [], ◌∷◌, length, Option, Some, None, Result, Ok, Err, false, nat_lt, if◌then◌else◌}
 use Rattle.srmt_base.specs.declared.event.Event.{Event}
 use Rattle.srmt_base.specs.declared.event.Event.TheVariants.{Byte, PortRead, PortWrite, Exit as ExitEvent}
 use Rattle.srmt_base.specs.declared.trap.SourceEnd.{SourceEnd}
@@ -9,7 +9,7 @@ use Rattle.srmt_base.specs.declared.trap.Trap.TheVariants.{Store}
 use Rattle.srmt_base.specs.Objects.{Objects, object_part, offset_part, add_of}
 use Rattle.srmt_base.specs.Memory.{Part, Memory, last_number}
 use Rattle.mid_code.specs.declared.access.Access.{Access}
-use Rattle.mid_code.specs.declared.access.Access.TheVariants.{Loads, Stores, VolatileLoads, VolatileStores, Opens as OpensOne, Closes, Puts, Gets, Exits}
+use Rattle.mid_code.specs.declared.access.Access.TheVariants.{VolatileLoads, VolatileStores, Puts, Exits}
 use Rattle.mid_code.specs.Machine.{Machine, given_object, activations}
 use Rattle.mid_code.specs.Fits.{open_count}
 use Rattle.mid_run.specs.Kept.{Kept}

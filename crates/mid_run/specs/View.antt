@@ -1,5 +1,5 @@
 -- The machine's fields as what the run has come to.
-use Rattle.std.specs.Prelude.{ℕ, List, drop, Option, Some, None}
+use Rattle.std.specs.Prelude.{drop, Option, Some, None}
 use Rattle.srmt_base.specs.declared.trap.SourceEnd.{SourceEnd}
 use Rattle.mid_code.specs.Meaning.{State}
 use Rattle.mid_run.specs.declared.run.MidRun.TheInside.{Inside}

@@ -1,4 +1,4 @@
-use Rattle.std.proofs.Common.{◌≡◌, ◌+◌, ◌++◌, ◌≤◌, length, map, take, slice_index, vec_len, vec_capacity}
+use Rattle.std.proofs.Common.{◌≡◌, ◌+◌, ◌++◌, ◌≤◌, map, take, slice_index, vec_capacity}
 use Rattle.mid_run.proofs.frames.append_arguments.Given as goal
 
 abbrev pub invariant-loop-register : goal.invariant-loop-register

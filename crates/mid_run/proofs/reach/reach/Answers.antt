@@ -1,4 +1,4 @@
-use Rattle.std.proofs.Common.{◌≡◌, List, [], drop}
+use Rattle.std.proofs.Common.{drop}
 use Rattle.mid_run.proofs.Reached.{read_leads, write_leads, open_leads}
 use Rattle.mid_run.proofs.reach.reach.Goals as goal
 

@@ -1,7 +1,6 @@
-use Rattle.std.proofs.Common.{◌≡◌, ℕ, ◌+◌, ◌*◌, ◌<◌, length, get_or, Ok, Err, sym, ap, ◌∙◌, subst, arith}
-use Rattle.srmt_base.specs.Objects.{Objects, add_of, set_up_of}
+use Rattle.std.proofs.Common.{◌≡◌, ◌+◌, ◌<◌, length, arith}
 use Rattle.mid_run.specs.Statics.{with_static}
-use Rattle.mid_run.proofs.StaticRows.{added, set_up_more}
+use Rattle.mid_run.proofs.StaticRows.{set_up_more}
 use Rattle.mid_run.proofs.statics.begin_static.Goals as goal
 
 pub unreachable-requires-in_default-set_up : goal.unreachable-requires-in_default-set_up

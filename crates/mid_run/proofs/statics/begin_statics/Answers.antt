@@ -1,11 +1,10 @@
-use Rattle.std.proofs.Common.{◌≡◌, ℕ, ◌+◌, ◌*◌, ◌<◌, ◌≤◌, length, take, get_or, Ok, Err, sym, ap, ◌∙◌, subst, arith}
-use Rattle.std.specs.Prelude.{All}
-use Rattle.srmt_base.specs.Objects.{Object, Objects, live_cells}
+use Rattle.std.proofs.Common.{◌≡◌, ◌+◌, length, take, sym, ap, ◌∙◌, subst, arith}
+use Rattle.srmt_base.specs.Objects.{Objects, live_cells}
 use Rattle.srmt_base.specs.Memory.{part_if, first_number}
 use Rattle.mid_code.specs.declared.program.Static.{Static}
-use Rattle.mid_code.specs.Start.{static_cells, started_objects}
-use Rattle.mid_run.specs.Statics.{IsSound, with_static}
-use Rattle.mid_run.proofs.StaticRows.{IsNext, next_static, started_more, few_statics}
+use Rattle.mid_code.specs.Start.{started_objects}
+use Rattle.mid_run.specs.Statics.{with_static}
+use Rattle.mid_run.proofs.StaticRows.{next_static, started_more, few_statics}
 use Rattle.mid_run.proofs.statics.begin_statics.Goals as goal
 use Rattle.mid_run.proofs.statics.begin_statics.Goals.{then-protected, else-protected}
 

@@ -1,4 +1,4 @@
-use Rattle.std.proofs.Common.{◌≡◌, ◌+◌, ◌<◌, length, refl, ap, sym, ◌∙◌, arith}
+use Rattle.std.proofs.Common.{◌<◌, length, refl, ap, arith}
 use Rattle.mid_code.specs.Machine.{Machine}
 use Rattle.mid_run.proofs.Rows.{begun-rows, target_within, kept_begun, open_count-rows}
 use Rattle.mid_run.proofs.frames.Frames.begin.Goals as goal

@@ -1,10 +1,9 @@
-use Rattle.std.proofs.Common.{◌≡◌, ℕ, ◌+◌, ◌-◌, ◌*◌, ◌^◌, ◌++◌, ◌∷◌, [], List, ◌<◌, ◌≤◌, length, map, take, replicate, refl, ap, sym, subst, ◌∙◌, arith, vec_len, vec_capacity, slice_index}
-use Rattle.std.specs.Prelude.{All}
+use Rattle.std.proofs.Common.{◌≡◌, ℕ, ◌+◌, ◌-◌, ◌++◌, List, length, map, replicate, refl, ap, ◌∙◌, arith, vec_len, vec_capacity, slice_index}
 use Rattle.std.proofs.lemmas.List.{length-map, length-append, length-replicate}
 use Rattle.mid_run.specs.declared.frames.Line.{Line}
 use Rattle.mid_run.specs.declared.frames.Left.{Left}
 use Rattle.mid_code.specs.Machine.{Machine}
-use Rattle.mid_run.specs.Kept.{AreKept, AreStacked, with_left, left_at}
+use Rattle.mid_run.specs.Kept.{left_at}
 use Rattle.mid_run.proofs.Rows.{registers_fit, entered-rows, kept_entered, depths-with, depth_left, each_within, resized, small_arguments}
 use Rattle.mid_run.proofs.frames.Frames.enter.Goals as goal
 

@@ -1,4 +1,4 @@
-use Rattle.std.proofs.Common.{◌≡◌, ◌+◌, ◌-◌, ◌<◌, ◌≤◌, length, take, ap, sym, ◌∙◌, arith}
+use Rattle.std.proofs.Common.{◌≡◌, ◌-◌, ◌≤◌, length, take, ap, ◌∙◌, arith}
 use Rattle.mid_code.specs.Machine.{Machine}
 use Rattle.mid_run.proofs.Rows.{finished-rows, opened_length}
 use Rattle.mid_run.proofs.frames.Frames.finish.Goals as goal

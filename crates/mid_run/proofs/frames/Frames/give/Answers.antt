@@ -1,6 +1,5 @@
-use Rattle.std.proofs.Common.{◌≡◌, ◌+◌, ◌<◌, length, ap, sym, ◌∙◌, arith}
-use Rattle.mid_code.specs.Machine.{Machine, given}
-use Rattle.mid_run.specs.Kept.{Kept}
+use Rattle.std.proofs.Common.{ap}
+use Rattle.mid_code.specs.Machine.{Machine}
 use Rattle.mid_run.proofs.Rows.{given-rows, target_within}
 use Rattle.mid_run.proofs.frames.Frames.give.Goals as goal
 

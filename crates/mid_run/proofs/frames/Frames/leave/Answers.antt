@@ -1,9 +1,8 @@
-use Rattle.std.proofs.Common.{◌≡◌, ℕ, ◌+◌, ◌-◌, ◌++◌, ◌∷◌, [], List, ◌<◌, ◌≤◌, length, take, ap, sym, subst, ◌∙◌, arith, vec_capacity}
+use Rattle.std.proofs.Common.{◌≡◌, ◌+◌, ◌++◌, ◌∷◌, [], List, length, ap, subst, arith, vec_capacity}
 use Rattle.std.specs.Prelude.{reverse}
 use Rattle.mid_run.specs.declared.frames.Line.{Line}
 use Rattle.mid_run.specs.declared.frames.Left.{Left}
-use Rattle.mid_code.specs.Machine.{Machine}
-use Rattle.mid_run.specs.Kept.{AreKept, AreStacked, with_left, left_at}
+use Rattle.mid_run.specs.Kept.{AreKept, AreStacked}
 use Rattle.mid_run.proofs.Rows.{left-rows, kept_left, result_within, depths-with}
 use Rattle.mid_run.proofs.frames.Frames.leave.Goals as goal
 

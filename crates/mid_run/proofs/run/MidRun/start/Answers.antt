@@ -1,4 +1,4 @@
-use Rattle.std.proofs.Common.{◌≡◌, ◌≤◌, length, Some, None, refl, sym, ap, ◌∙◌, subst, arith}
+use Rattle.std.proofs.Common.{sym, ap, ◌∙◌, arith}
 use Rattle.mid_run.proofs.Sound.{sound_statics, main_not_none, few_registers, started_is, fits_at_start}
 use Rattle.mid_run.specs.Progress.{At}
 use Rattle.mid_run.proofs.run.MidRun.start.Goals as goal

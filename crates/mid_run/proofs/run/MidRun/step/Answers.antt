@@ -1,12 +1,12 @@
-use Rattle.std.proofs.Common.{◌≡◌, ◌+◌, ◌<◌, ◌^◌, [], drop, Some, None, ap, ◌∙◌, sym, subst}
+use Rattle.std.proofs.Common.{◌≡◌, ◌+◌, ◌<◌, ◌^◌, [], drop, Some, None, ap, sym, subst}
 use Rattle.srmt_base.specs.declared.trap.SourceEnd.TheVariants.{Trap as TrapEnd}
 use Rattle.srmt_outside.proofs.Told.{Appends-nothing}
 use Rattle.mid_code.specs.Meaning.{Step, step}
 use Rattle.mid_run.specs.Kept.{Kept}
-use Rattle.mid_run.specs.Progress.{Progress, At, FitsIn, Steps}
+use Rattle.mid_run.specs.Progress.{At, FitsIn, Steps}
 use Rattle.mid_run.specs.Reaching.{state_of, events_of, LeadsTo, HasRoom}
 use Rattle.mid_run.specs.View.{progress_by, state_in}
-use Rattle.mid_run.proofs.Stepping.{stands, found, ready, has_room, led, went_on, stopped, wanted}
+use Rattle.mid_run.proofs.Stepping.{stands, ready, has_room, led, went_on, stopped, wanted}
 use Rattle.mid_run.proofs.run.MidRun.step.Goals as goal
 
 pub perform-requires-clause-place : goal.perform-requires-clause-place
