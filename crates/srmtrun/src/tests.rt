@@ -10,7 +10,6 @@ use std::test::Fail;
 
 mod pairs;
 mod schedules;
-mod sides;
 mod worlds;
 
 const FORM: RunAnswer = RunAnswer::Refused(CompileRefusal::Form);
