@@ -8,4 +8,3 @@ pub mod Limiting
 pub mod CodeMeaning
 pub mod Serving
 pub mod Clauses
-pub mod Growing

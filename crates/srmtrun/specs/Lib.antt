@@ -7,4 +7,3 @@ pub mod Words
 pub mod Answer
 pub mod Still
 pub mod Parts
-pub mod Pairing

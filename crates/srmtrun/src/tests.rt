@@ -2,15 +2,10 @@ use crate::answer::{CompileRefusal, Finished, RunAnswer};
 use crate::first_form::{Constant, FormRefusal};
 use crate::reading::read_first_form;
 use crate::still::srmtrun_still;
-use pair_core::{Ran, Verdict};
 use srmt_base::{Event, SourceEnd};
 use srmt_outside::{MemFiles, MemOutlet, MemSink, SureFiles};
 use std::alloc::{AllocError, Global};
 use std::test::Fail;
-
-mod pairs;
-mod schedules;
-mod worlds;
 
 const FORM: RunAnswer = RunAnswer::Refused(CompileRefusal::Form);
 
@@ -23,22 +18,12 @@ fn words(alloc: Global, texts: &[&str]) -> Result<Vec<String>, AllocError> {
     Ok(words)
 }
 
-// Runs a source on one thread, from files that never fail.
+// Runs a source from files that never fail.
 fn run(alloc: Global, source: &[u8], outlet: &mut MemOutlet) -> Result<Finished, AllocError> {
-    run_by(alloc, "--single", source, outlet)
-}
-
-// Runs a source in the mode of a flag, from files that never fail.
-fn run_by(
-    alloc: Global,
-    flag: &str,
-    source: &[u8],
-    outlet: &mut MemOutlet,
-) -> Result<Finished, AllocError> {
     let mut files = SureFiles::new(alloc);
     files.give(alloc, "a.c", source)?;
     let mut notes = MemSink::with_room(alloc, 0)?;
-    let words = words(alloc, &["a.c", flag])?;
+    let words = words(alloc, &["a.c", "--single"])?;
     Ok(srmtrun_still(alloc, &words, &mut files, outlet, &mut notes))
 }
 
@@ -73,58 +58,6 @@ fn sources_run(rt: HostRuntime) -> Result<(), Fail> {
             events.push(Event::Byte(*byte))?;
         }
         events.push(Event::Exit(status))?;
-        assert_eq!(rt; outlet.events(), events.as_slice(), "{source:?}");
-    }
-    Ok(())
-}
-
-// The counts are those of the two versions, taken by hand.
-#[test]
-fn both_sides_run(rt: HostRuntime) -> Result<(), Fail> {
-    let two = b"int main(void) {\nputchar(65);\nputchar(66);\nreturn 0;\n}";
-    // The source, the call of the outlet that fails, how many bytes are written, the verdict, the
-    // status, and the counts of steps and words.
-    let rows: [(&[u8], u64, usize, Verdict, u8, [u64; 4]); 4] = [
-        (
-            b"int main(void){return 0;}",
-            0,
-            0,
-            Verdict::Exit(0),
-            0,
-            [4, 4, 1, 1],
-        ),
-        (
-            b"int main(void) {\nputchar(65);\nreturn 300;\n}",
-            0,
-            1,
-            Verdict::Exit(44),
-            44,
-            [9, 8, 2, 2],
-        ),
-        (two, 0, 2, Verdict::Exit(0), 0, [14, 12, 3, 3]),
-        (two, 2, 1, Verdict::WriteFault, 124, [9, 10, 2, 2]),
-    ];
-    for (source, fails, bytes, verdict, status, [lead_steps, trail_steps, words, acks]) in rows {
-        let mut outlet = MemOutlet::with_room(rt.alloc(), 3)?;
-        outlet.fails.push(fails)?;
-        let finished = run_by(rt.alloc(), "--alternate", source, &mut outlet)?;
-        let want = Ran {
-            verdict,
-            lead_steps,
-            trail_steps,
-            words,
-            acks,
-            applied: false,
-        };
-        assert_eq!(rt; finished.answer, RunAnswer::Ran(want), "{source:?}");
-        assert_eq!(rt; finished.status, status, "{source:?}");
-        let mut events = Vec::new(rt.alloc());
-        for byte in [Event::Byte(65), Event::Byte(66)].iter().take(bytes) {
-            events.push(*byte)?;
-        }
-        if fails == 0 {
-            events.push(Event::Exit(status))?;
-        }
         assert_eq!(rt; outlet.events(), events.as_slice(), "{source:?}");
     }
     Ok(())
@@ -190,12 +123,9 @@ fn limits_are_exact(rt: HostRuntime) -> Result<(), Fail> {
 #[test]
 fn words_are_taken(rt: HostRuntime) -> Result<(), Fail> {
     let alloc = rt.alloc();
-    let rows: [(&[&str], u8); 11] = [
+    let rows: [(&[&str], u8); 8] = [
         (&["a.c", "--single"], 7),
         (&["--single", "a.c"], 7),
-        (&["a.c", "--alternate"], 7),
-        (&["--alternate", "a.c"], 7),
-        (&["--alternate", "--single"], 126),
         (&[], 126),
         (&["a.c"], 126),
         (&["a.c", "--double"], 126),

@@ -7,8 +7,6 @@ ghost use Rattle.srmtrun.specs.Words.{texts, flag_of, names_source, Takes};
 pub enum Mode {
     /// By the machine of one thread: `--single`.
     Single,
-    /// By both sides in turn: `--alternate`.
-    Alternate,
 }
 
 /// The mode and the name of the program, where the words are taken.
@@ -36,7 +34,6 @@ fn mode_of(word: &str) -> Option<Mode>
 {
     match word {
         "--single" => Some(Mode::Single),
-        "--alternate" => Some(Mode::Alternate),
         _ => None,
     }
 }
