@@ -146,16 +146,17 @@ in_order form code place l ours at = by_found (found_at code place) refl
     by_way found here (inl leads) =
         let next = found_next form code place l found ours at here leads in
         let test : has_others (found_at code (place + 1)) (leaves place l.mid found) ≡ false =
-              ap (λ o. has_others o (leaves place l.mid found)) next ∙ ap (λ xs. has_others (Some found) xs) (leads.keeps place found) ∙ ap not (same_places-same found) in
+        ap (λ o. has_others o (leaves place l.mid found)) next ∙ ap (λ xs. has_others (Some found) xs) (leads.keeps place found) ∙ ap not (same_places-same found) in
         let enters : enters_wrongly code place l.mid found ≡ false =
-              ap (list_any (λ target. nat_lt target (length code) && has_others (found_at code target) (leaves place l.mid found))) (leads.next place)
-              ∙ ap (λ b. (nat_lt (place + 1) (length code) && b) || false) test ∙ both (nat_lt (place + 1) (length code)) in
+        ap (list_any (λ target. nat_lt target (length code) && has_others (found_at code target) (leaves place l.mid found))) (leads.next place)
+        ∙ ap (λ b. (nat_lt (place + 1) (length code) && b) || false) test ∙ both (nat_lt (place + 1) (length code)) in
         rw (leads.closes found, enters) refl
       where
         both : (b : Bool) → ((b && false) || false) ≡ false
         both true = refl
         both false = refl
     by_way found here (inr exit) = ap (λ mid. closes_wrongly mid found || enters_wrongly code place mid found) exit
+
     by_found : (o : Option (List ℕ)) → found_at code place ≡ o → breaks_order_by code place l.mid o ≡ false
     by_found None here = refl
     by_found (Some found) here = by_way found here (ours place l at).way
