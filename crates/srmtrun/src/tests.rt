@@ -2,7 +2,6 @@ use crate::answer::{CompileRefusal, Finished, RunAnswer};
 use crate::first_form::{Constant, FormRefusal};
 use crate::reading::read_first_form;
 use crate::still::srmtrun_still;
-use pair_core::{Ran, Verdict};
 use srmt_base::{Event, SourceEnd};
 use srmt_outside::{MemFiles, MemOutlet, MemSink, SureFiles};
 use std::alloc::{AllocError, Global};
@@ -10,7 +9,8 @@ use std::test::Fail;
 
 mod pairs;
 mod schedules;
-mod worlds;
+
+use schedules::told;
 
 const FORM: RunAnswer = RunAnswer::Refused(CompileRefusal::Form);
 
@@ -78,55 +78,41 @@ fn sources_run(rt: HostRuntime) -> Result<(), Fail> {
     Ok(())
 }
 
+// The counts of a run of both sides, and its status.
+fn counts(finished: &Finished) -> Option<[u64; 5]> {
+    match &finished.answer {
+        RunAnswer::Ran(ran) => Some(told(ran)),
+        _ => None,
+    }
+}
+
+// Runs a source on both sides, with an outlet whose call of this number fails: the status, the
+// counts, and how many events were written.
+fn both(
+    alloc: Global,
+    source: &[u8],
+    fails: u64,
+) -> Result<(u8, Option<[u64; 5]>, usize), AllocError> {
+    let mut outlet = MemOutlet::with_room(alloc, 3)?;
+    outlet.fails.push(fails)?;
+    let finished = run_by(alloc, "--alternate", source, &mut outlet)?;
+    Ok((finished.status, counts(&finished), outlet.events().len()))
+}
+
 // The counts are those of the two versions, taken by hand.
 #[test]
 fn both_sides_run(rt: HostRuntime) -> Result<(), Fail> {
+    let one = b"int main(void){return 0;}";
+    let told = both(rt.alloc(), one, 0)?;
+    assert_eq!(rt; told, (0, Some([4, 4, 1, 1, 0]), 1));
+    let wide = b"int main(void) {\nputchar(65);\nreturn 300;\n}";
+    let told = both(rt.alloc(), wide, 0)?;
+    assert_eq!(rt; told, (44, Some([9, 8, 2, 2, 44]), 2));
     let two = b"int main(void) {\nputchar(65);\nputchar(66);\nreturn 0;\n}";
-    // The source, the call of the outlet that fails, how many bytes are written, the verdict, the
-    // status, and the counts of steps and words.
-    let rows: [(&[u8], u64, usize, Verdict, u8, [u64; 4]); 4] = [
-        (
-            b"int main(void){return 0;}",
-            0,
-            0,
-            Verdict::Exit(0),
-            0,
-            [4, 4, 1, 1],
-        ),
-        (
-            b"int main(void) {\nputchar(65);\nreturn 300;\n}",
-            0,
-            1,
-            Verdict::Exit(44),
-            44,
-            [9, 8, 2, 2],
-        ),
-        (two, 0, 2, Verdict::Exit(0), 0, [14, 12, 3, 3]),
-        (two, 2, 1, Verdict::WriteFault, 124, [9, 10, 2, 2]),
-    ];
-    for (source, fails, bytes, verdict, status, [lead_steps, trail_steps, words, acks]) in rows {
-        let mut outlet = MemOutlet::with_room(rt.alloc(), 3)?;
-        outlet.fails.push(fails)?;
-        let finished = run_by(rt.alloc(), "--alternate", source, &mut outlet)?;
-        let want = Ran {
-            verdict,
-            lead_steps,
-            trail_steps,
-            words,
-            acks,
-            applied: false,
-        };
-        assert_eq!(rt; finished.answer, RunAnswer::Ran(want), "{source:?}");
-        assert_eq!(rt; finished.status, status, "{source:?}");
-        let mut events = Vec::new(rt.alloc());
-        for byte in [Event::Byte(65), Event::Byte(66)].iter().take(bytes) {
-            events.push(*byte)?;
-        }
-        if fails == 0 {
-            events.push(Event::Exit(status))?;
-        }
-        assert_eq!(rt; outlet.events(), events.as_slice(), "{source:?}");
-    }
+    let told = both(rt.alloc(), two, 0)?;
+    assert_eq!(rt; told, (0, Some([14, 12, 3, 3, 0]), 3));
+    let told = both(rt.alloc(), two, 2)?;
+    assert_eq!(rt; told, (124, Some([9, 10, 2, 2, 124]), 1));
     Ok(())
 }
 

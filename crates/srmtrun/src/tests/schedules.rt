@@ -55,10 +55,11 @@ fn side_of(order: Order, number: u32) -> Side {
     }
 }
 
-// The counts of an answer, and its status if it is an exit.
-fn told(ran: &Ran) -> [u64; 5] {
+// The counts of an answer, and its status if it is an exit, or 124 if an event failed.
+pub fn told(ran: &Ran) -> [u64; 5] {
     let status = match &ran.verdict {
         Verdict::Exit(status) => u64::from(*status),
+        Verdict::WriteFault => 124,
         _ => 1_000,
     };
     [ran.lead_steps, ran.trail_steps, ran.words, ran.acks, status]
