@@ -10,8 +10,6 @@ use std::test::Fail;
 mod pairs;
 mod schedules;
 
-use schedules::told;
-
 const FORM: RunAnswer = RunAnswer::Refused(CompileRefusal::Form);
 
 // The words of a command.
@@ -25,20 +23,10 @@ fn words(alloc: Global, texts: &[&str]) -> Result<Vec<String>, AllocError> {
 
 // Runs a source on one thread, from files that never fail.
 fn run(alloc: Global, source: &[u8], outlet: &mut MemOutlet) -> Result<Finished, AllocError> {
-    run_by(alloc, "--single", source, outlet)
-}
-
-// Runs a source in the mode of a flag, from files that never fail.
-fn run_by(
-    alloc: Global,
-    flag: &str,
-    source: &[u8],
-    outlet: &mut MemOutlet,
-) -> Result<Finished, AllocError> {
     let mut files = SureFiles::new(alloc);
     files.give(alloc, "a.c", source)?;
     let mut notes = MemSink::with_room(alloc, 0)?;
-    let words = words(alloc, &["a.c", flag])?;
+    let words = words(alloc, &["a.c", "--single"])?;
     Ok(srmtrun_still(alloc, &words, &mut files, outlet, &mut notes))
 }
 
@@ -75,44 +63,6 @@ fn sources_run(rt: HostRuntime) -> Result<(), Fail> {
         events.push(Event::Exit(status))?;
         assert_eq!(rt; outlet.events(), events.as_slice(), "{source:?}");
     }
-    Ok(())
-}
-
-// The counts of a run of both sides, and its status.
-fn counts(finished: &Finished) -> Option<[u64; 5]> {
-    match &finished.answer {
-        RunAnswer::Ran(ran) => Some(told(ran)),
-        _ => None,
-    }
-}
-
-// Runs a source on both sides, with an outlet whose call of this number fails: the status, the
-// counts, and how many events were written.
-fn both(
-    alloc: Global,
-    source: &[u8],
-    fails: u64,
-) -> Result<(u8, Option<[u64; 5]>, usize), AllocError> {
-    let mut outlet = MemOutlet::with_room(alloc, 3)?;
-    outlet.fails.push(fails)?;
-    let finished = run_by(alloc, "--alternate", source, &mut outlet)?;
-    Ok((finished.status, counts(&finished), outlet.events().len()))
-}
-
-// The counts are those of the two versions, taken by hand.
-#[test]
-fn both_sides_run(rt: HostRuntime) -> Result<(), Fail> {
-    let one = b"int main(void){return 0;}";
-    let told = both(rt.alloc(), one, 0)?;
-    assert_eq!(rt; told, (0, Some([4, 4, 1, 1, 0]), 1));
-    let wide = b"int main(void) {\nputchar(65);\nreturn 300;\n}";
-    let told = both(rt.alloc(), wide, 0)?;
-    assert_eq!(rt; told, (44, Some([9, 8, 2, 2, 44]), 2));
-    let two = b"int main(void) {\nputchar(65);\nputchar(66);\nreturn 0;\n}";
-    let told = both(rt.alloc(), two, 0)?;
-    assert_eq!(rt; told, (0, Some([14, 12, 3, 3, 0]), 3));
-    let told = both(rt.alloc(), two, 2)?;
-    assert_eq!(rt; told, (124, Some([9, 10, 2, 2, 124]), 1));
     Ok(())
 }
 
