@@ -20,3 +20,4 @@ pub mod Declarations
 pub mod Statements
 pub mod StatementsAgain
 pub mod UnitLaws
+pub mod Ladder
