@@ -8,8 +8,8 @@ use Rattle.c_parser.specs.declared.start.Start.{Start}
 use Rattle.c_parser.specs.declared.start.Start.TheVariants as at
 use Rattle.c_parser.specs.declared.start.Naming.{Naming}
 use Rattle.c_parser.specs.Codes.{kinds, binary_operators, name, text, close_bracket, close_paren, postfix_operators}
-use Rattle.c_parser.specs.Nodes.{Bytes, name_node, text_of, postfix_node, sizeof_expr_node, sizeof_type_node}
-use Rattle.c_parser.specs.Reading.{Reader, one, grown, sign, ◌>>=◌, ◌<$>◌, pure, choose, begins, then_begins, begins_type, in_parens, type_name, parameters, may_end, core_starts, cast, level, operated, operation}
+use Rattle.c_parser.specs.Nodes.{Bytes, comma_node, name_node, text_of, postfix_node, sizeof_expr_node, sizeof_type_node}
+use Rattle.c_parser.specs.Reading.{Reader, one, grown, sign, ◌>>=◌, ◌<$>◌, pure, choose, begins, then_begins, begins_type, in_parens, type_name, parameters, may_end, core_starts, cast, assignment, behind_comma, level, operated, operation}
 
 -- the tokens behind the first one
 abbrev pub behind : List Token → List Token
@@ -67,3 +67,7 @@ module _ (src : Bytes) (expr : Start → Reader Expr) (declarator : Naming → R
 
   abbrev pub climbed : ℕ → Reader Expr
   climbed n = cast src expr declarator >>= (λ first. ladder n 0 first)
+
+  -- an operand behind a comma, with what stands left of it
+  abbrev pub next_operand : Expr → Reader Expr
+  next_operand left = behind_comma (assignment src expr declarator) >>= (λ operand. pure (comma_node left operand))

@@ -534,14 +534,15 @@ where
         }
     }
 
-    /// An operand behind a comma.
-    fn next_operand<'t>(&self, tokens: &'t [Token]) -> Read<'t, Expr>
+    /// An operand behind a comma, with what stands left of it.
+    fn next_operand<'t>(&self, left: Expr, tokens: &'t [Token]) -> Read<'t, Expr>
         requires { Leads E.Fn D.Fn self.now.expr self.now.declarator self.now.src.now self.now.depth }
-        ensures { Gives seen result (reading.behind_comma (at_depth reading.assignment self.now.src.now self.now.depth) tokens.now) }
+        ensures { Gives seen result (at_depth parts.next_operand self.now.src.now self.now.depth left tokens.now) }
     {
         let (_comma, rest) = one(COMMA, tokens)?;
         let (operand, rest) = self.assignment(rest)?;
-        Ok((operand, rest))
+        let expr = comma_node(self.alloc, left, operand)?;
+        Ok((expr, rest))
     }
 
     /// C11 6.5.17
@@ -555,8 +556,8 @@ where
             if !begins(&[COMMA], rest) {
                 break;
             }
-            let (right, more) = self.next_operand(rest)?;
-            left = comma_node(self.alloc, left, right)?;
+            let (longer, more) = self.next_operand(left, rest)?;
+            left = longer;
             rest = more;
         }
         Ok((left, rest))
