@@ -25,3 +25,4 @@ pub mod EnoughExpr
 pub mod EnoughUnit
 pub mod RefusalLaws
 pub mod ParseLaws
+pub mod Depths

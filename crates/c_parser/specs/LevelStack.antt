@@ -1,8 +1,8 @@
 -- The open levels as the code keeps them.
-use Rattle.std.specs.Prelude.{◌≡◌, ℕ, ◌≤◌, List, [], ◌∷◌, reverse}
+use Rattle.std.specs.Prelude.{◌≡◌, ◌≤◌, List, [], ◌∷◌, reverse}
 use Rattle.c_parser.specs.declared.nesting.Level.{Level}
 use Rattle.c_parser.specs.declared.nesting.LevelStack.{LevelStack}
-use Rattle.c_parser.specs.Nesting.{Levels, around, nesting_in}
+use Rattle.c_parser.specs.Nesting.{Levels, around}
 
 abbrev pub levels_of : LevelStack → Levels
 levels_of s = record { innermost = s.innermost; others = reverse s.others.items; ended = s.ended }
