@@ -26,3 +26,4 @@ pub mod EnoughUnit
 pub mod RefusalLaws
 pub mod ParseLaws
 pub mod Depths
+pub mod Ladder

@@ -407,6 +407,18 @@ where
         }
     }
 
+    /// An operator of a level with its right operand behind a left operand, with it.
+    #[cycle(level)]
+    fn operation<'t>(&self, level: u8, left: Expr, tokens: &'t [Token]) -> Read<'t, Expr>
+        requires { Leads E.Fn D.Fn self.now.expr self.now.declarator self.now.src.now self.now.depth }
+        ensures { Gives seen result (at_depth parts.operation_behind self.now.src.now self.now.depth level left tokens.now) }
+    {
+        let ((line, op), rest) = sign(binary_operators(level), tokens)?;
+        let (right, rest) = self.level(level, rest)?;
+        let expr = binary_node(self.alloc, left, line, op, right)?;
+        Ok((expr, rest))
+    }
+
     /// The operators of a level with their right operands behind a left operand, with it.
     #[cycle(level)]
     #[tactic(auto, unfolding(crate::specs::Reading::grown_from))]
@@ -414,19 +426,45 @@ where
         requires { Leads E.Fn D.Fn self.now.expr self.now.declarator self.now.src.now self.now.depth }
         ensures { Gives seen result (at_depth parts.operations self.now.src.now self.now.depth level left tokens.now) }
     {
-        let table = binary_operators(level);
         let mut left = left;
         let mut rest = tokens;
         for _turn in 0..tokens.len() {
-            if !begins_in(table, rest) {
+            if !begins_in(binary_operators(level), rest) {
                 break;
             }
-            let ((line, op), behind) = sign(table, rest)?;
-            let (right, more) = self.level(level, behind)?;
-            left = binary_node(self.alloc, left, line, op, right)?;
+            let (longer, more) = self.operation(level, left, rest)?;
+            left = longer;
             rest = more;
         }
         Ok((left, rest))
+    }
+
+    /// The operators of the levels below a number behind a left operand, with it, one level after the other.
+    #[cycle(level)]
+    #[tactic(auto, unfolding(crate::specs::Parts::ladder))]
+    fn ladder<'t>(&self, levels: u8, left: Expr, tokens: &'t [Token]) -> Read<'t, Expr>
+        requires { Leads E.Fn D.Fn self.now.expr self.now.declarator self.now.src.now self.now.depth }
+        ensures { Gives seen result (at_depth parts.ladder self.now.src.now self.now.depth levels 0 left tokens.now) }
+    {
+        let mut left = left;
+        let mut rest = tokens;
+        for level in 0..levels {
+            let (longer, more) = self.operations(level, left, rest)?;
+            left = longer;
+            rest = more;
+        }
+        Ok((left, rest))
+    }
+
+    /// An operand, and behind it the operators of the levels below a number with their right operands.
+    #[cycle(level)]
+    fn climbed<'t>(&self, levels: u8, tokens: &'t [Token]) -> Read<'t, Expr>
+        requires { Leads E.Fn D.Fn self.now.expr self.now.declarator self.now.src.now self.now.depth }
+        ensures { Gives seen result (at_depth parts.climbed self.now.src.now self.now.depth levels tokens.now) }
+    {
+        let (first, rest) = self.cast(tokens)?;
+        let (expr, rest) = self.ladder(levels, first, rest)?;
+        Ok((expr, rest))
     }
 
     /// Operands with the operators of the levels below a number between them (C11 6.5.5 to 6.5.14).
@@ -435,13 +473,7 @@ where
         requires { Leads E.Fn D.Fn self.now.expr self.now.declarator self.now.src.now self.now.depth }
         ensures { Gives seen result (at_depth reading.level self.now.src.now self.now.depth levels tokens.now) }
     {
-        let (mut left, mut rest) = self.cast(tokens)?;
-        for level in 0..levels {
-            let (longer, more) = self.operations(level, left, rest)?;
-            left = longer;
-            rest = more;
-        }
-        Ok((left, rest))
+        self.climbed(levels, tokens)
     }
 
     /// `?` and both branches behind a condition.
@@ -502,14 +534,15 @@ where
         }
     }
 
-    /// An operand behind a comma.
-    fn next_operand<'t>(&self, tokens: &'t [Token]) -> Read<'t, Expr>
+    /// An operand behind a comma, with what stands left of it.
+    fn next_operand<'t>(&self, left: Expr, tokens: &'t [Token]) -> Read<'t, Expr>
         requires { Leads E.Fn D.Fn self.now.expr self.now.declarator self.now.src.now self.now.depth }
-        ensures { Gives seen result (reading.behind_comma (at_depth reading.assignment self.now.src.now self.now.depth) tokens.now) }
+        ensures { Gives seen result (at_depth parts.next_operand self.now.src.now self.now.depth left tokens.now) }
     {
         let (_comma, rest) = one(COMMA, tokens)?;
         let (operand, rest) = self.assignment(rest)?;
-        Ok((operand, rest))
+        let expr = comma_node(self.alloc, left, operand)?;
+        Ok((expr, rest))
     }
 
     /// C11 6.5.17
@@ -523,8 +556,8 @@ where
             if !begins(&[COMMA], rest) {
                 break;
             }
-            let (right, more) = self.next_operand(rest)?;
-            left = comma_node(self.alloc, left, right)?;
+            let (longer, more) = self.next_operand(left, rest)?;
+            left = longer;
             rest = more;
         }
         Ok((left, rest))
