@@ -1,6 +1,5 @@
 -- What is spelled is read, where what follows does not go on with it.
-use Rattle.std.proofs.Common.{◌≡◌, ℕ, zero, suc, ◌+◌, ◌≤◌, ◌<◌, Bool, true, false, ◌||◌, List, [], ◌∷◌, ◌++◌, length, fold, refl, ap, sym, ◌∙◌, subst, Option, Some, None, Result, Ok, Err, ◌⊎◌, inl, inr, if◌then◌else◌, append_assoc, length-append, arith}
-use Rattle.std.proofs.lemmas.List.{append-nil}
+use Rattle.std.proofs.Common.{◌≡◌, ℕ, zero, suc, ◌+◌, ◌≤◌, ◌<◌, Bool, true, false, List, [], ◌∷◌, ◌++◌, length, fold, refl, ap, sym, ◌∙◌, subst, Option, Ok, inl, inr, if◌then◌else◌, append_assoc, length-append, arith}
 use Rattle.c_lexer.specs.declared.token.Token.{Token}
 use Rattle.c_parser.specs.Codes.{code, one_of}
 use Rattle.c_parser.specs.Spelling.{Spelling, Means, Is, Sequence, Many, Grown, Located, ◌or◌, line_at}
@@ -36,13 +35,15 @@ pub record Clear {A : Type 0} (P : Ahead) (T : Spelling A) (Q : Ahead) : Type 0 
 
 pub again_sequence : {A B : Type 0} {S : Spelling A} {R : Reader A} {T : A → Spelling B} {f : A → Reader B} {P Q : Ahead} (n m : ℕ)
     → Again n S R P → ((a : A) → Again m (T a) (f a) Q) → Gap S n m → ((a : A) → Clear P (T a) Q) → Again n (Sequence S T) (λ w. and_then (R w) f) Q
-again_sequence {R = R} {f = f} n m one two gap clear = record { read = λ x w rest h few q.
-    (let sum : length w ≡ length h.front + length h.back = ap length h.parts ∙ length-append h.front h.back in
-    let enough : n ≤ m + length h.front = gap h.of h.front h.first in
-    let joined : w ++ rest ≡ h.front ++ (h.back ++ rest) = ap (λ v. v ++ rest) h.parts ∙ append_assoc h.front h.back rest in
-    ap (λ v. and_then (R v) f) joined
-    ∙ (ap (λ r. and_then r f) (one.read h.of h.front (h.back ++ rest) h.first (omega arith) ((clear h.of).clear x h.back rest h.second q))
-    ∙ (two h.of).read x h.back rest h.second (omega arith) q)) }
+again_sequence {R = R} {f = f} n m one two gap clear = record {
+  read = λ x w rest h few q.
+      (let sum : length w ≡ length h.front + length h.back = ap length h.parts ∙ length-append h.front h.back in
+      let enough : n ≤ m + length h.front = gap h.of h.front h.first in
+      let joined : w ++ rest ≡ h.front ++ (h.back ++ rest) = ap (λ v. v ++ rest) h.parts ∙ append_assoc h.front h.back rest in
+      ap (λ v. and_then (R v) f) joined
+      ∙ (ap (λ r. and_then r f) (one.read h.of h.front (h.back ++ rest) h.first (omega arith) ((clear h.of).clear x h.back rest h.second q))
+      ∙ (two h.of).read x h.back rest h.second (omega arith) q));
+}
 
 pub again_seq : {A B : Type 0} {n : ℕ} {S : Spelling A} {R : Reader A} {T : A → Spelling B} {f : A → Reader B} {P Q : Ahead}
     → Again n S R P → ((a : A) → Clear P (T a) Q) → ((a : A) → Again n (T a) (f a) Q) → Again n (Sequence S T) (λ w. and_then (R w) f) Q
@@ -128,9 +129,11 @@ module _ {A B : Type 0} (n : ℕ) (test : List Token → Bool) (grow : A → B �
       ∙ grown_again ys turns (grow a y) h.1 rest h.4 (omega arith) (omega arith) q))
 
   pub again_grown : (a : A) → Again n (Grown grow S a) (grown test grow r a) Q
-  again_grown a = record { read = λ x f rest h few q.
-      (let low : length f ≤ length (f ++ rest) = (let sum : length (f ++ rest) ≡ length f + length rest = length-append f rest in omega arith) in
-      grown_again h.0 (length (f ++ rest)) a f rest h.1 few low q ∙ ap (λ v. Ok (v, rest)) (sym h.2)) }
+  again_grown a = record {
+    read = λ x f rest h few q.
+        (let low : length f ≤ length (f ++ rest) = (let sum : length (f ++ rest) ≡ length f + length rest = length-append f rest in omega arith) in
+        grown_again h.0 (length (f ++ rest)) a f rest h.1 few low q ∙ ap (λ v. Ok (v, rest)) (sym h.2));
+  }
 
 -- ---- what follows
 
@@ -148,15 +151,19 @@ pub clear_grown : {A B : Type 0} {P Q : Ahead} {S : Spelling B} (grow : A → B 
 clear_grown {P = P} {Q = Q} {S = S} grow a next last = record { clear = λ x f rest h q. clear_many P Q S next last h.0 f rest h.1 q }
 
 pub clear_sequence : {A B : Type 0} {P O Q : Ahead} {S : Spelling A} {T : A → Spelling B} → Clear P S O → ((a : A) → Clear O (T a) Q) → Clear P (Sequence S T) Q
-clear_sequence {P = P} s t = record { clear = λ x f rest h q.
-    (let U : List Token → Type 0 = P in
-    subst U (sym (ap (λ v. v ++ rest) h.parts ∙ append_assoc h.front h.back rest)) (s.clear h.of h.front (h.back ++ rest) h.first ((t h.of).clear x h.back rest h.second q))) }
+clear_sequence {P = P} s t = record {
+  clear = λ x f rest h q.
+      (let U : List Token → Type 0 = P in
+      subst U (sym (ap (λ v. v ++ rest) h.parts ∙ append_assoc h.front h.back rest)) (s.clear h.of h.front (h.back ++ rest) h.first ((t h.of).clear x h.back rest h.second q)));
+}
 
 -- ---- changes
 
 pub again_located : {A : Type 0} {P : Ahead} (n : ℕ) (S : ℕ → Spelling A) (R : ℕ → Reader A) → ((line : ℕ) → Again n (S line) (R line) P) → ((line : ℕ) → Filled (S line)) → Again n (Located S) (located R) P
-again_located n S R each filled = record { read = λ x f rest h few p.
-    (ap (λ k. R k (f ++ rest)) (line_front f rest (filled (line_at f) x f h)) ∙ (each (line_at f)).read x f rest h few p) }
+again_located n S R each filled = record {
+  read = λ x f rest h few p.
+      (ap (λ k. R k (f ++ rest)) (line_front f rest (filled (line_at f) x f h)) ∙ (each (line_at f)).read x f rest h few p);
+}
 
 pub again_narrower : {A : Type 0} {n : ℕ} {S S' : Spelling A} {R : Reader A} {P : Ahead} → ((x : A) (w : List Token) → S' x w → S x w) → Again n S R P → Again n S' R P
 again_narrower into h = record { read = λ x f rest s few p. h.read x f rest (into x f s) few p }
@@ -173,13 +180,13 @@ unfolding begins
 off_within ks ls e [] h = refl
 off_within ks ls e (t ∷ rest) h = kind_off (one_of ks (code t)) refl
   where
-  kind_off : (b : Bool) → one_of ks (code t) ≡ b → b ≡ false
-  kind_off true d = absurd (false_is_not_true (sym h ∙ within_one ks ls (code t) e d))
-  kind_off false d = refl
+    kind_off : (b : Bool) → one_of ks (code t) ≡ b → b ≡ false
+    kind_off true d = absurd (false_is_not_true (sym h ∙ within_one ks ls (code t) e d))
+    kind_off false d = refl
 
 -- a repetition behind which nothing of the kinds of its items or of what goes on with an item stands
 pub again_repeat : {A B : Type 0} {n : ℕ} {S : Spelling B} {r : Reader B} (ks ls ms : List ℕ) (grow : A → B → A) → Again n S r (Off ls) → Starts ks S → apart ks ls ≡ true
     → within ks ks ≡ true → within ks ms ≡ true → within ls ms ≡ true → (a : A) → Again n (Grown grow S a) (grown (begins ks) grow r a) (Off ms)
 again_repeat {n = n} {S = S} {r = r} ks ls ms grow one starts d same k l a =
     again_grown n (begins ks) grow S r (Off ls) (Off ms) one (λ y f rest h. begins_with ks S starts ks same y f rest h) (starts_filled ks S starts) (clear_starts ks ls starts d)
-      (λ rest q. (off_within ks ms k rest q, off_within ls ms l rest q)) a
+    (λ rest q. (off_within ks ms k rest q, off_within ls ms l rest q)) a

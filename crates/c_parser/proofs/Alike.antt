@@ -1,5 +1,5 @@
 -- Lists of tokens that begin alike.
-use Rattle.std.proofs.Common.{◌≡◌, ℕ, ◌+◌, ◌≤◌, ◌<◌, Bool, true, false, List, [], ◌∷◌, ◌++◌, length, refl, ap, sym, ◌∙◌, subst, Option, Some, None, Result, Ok, Err, ◌⊎◌, inl, inr, append_assoc, length-append, arith}
+use Rattle.std.proofs.Common.{◌≡◌, ℕ, Bool, true, false, List, [], ◌∷◌, ◌++◌, refl, ap, Option, Some, None, Result, Ok, Err, ◌⊎◌, inl, inr}
 use Rattle.c_lexer.specs.declared.token.Token.{Token}
 use Rattle.c_parser.specs.Codes.{code, one_of}
 use Rattle.c_parser.specs.Reading.{Reader, begins, and_then}
@@ -74,3 +74,10 @@ some_or_this d (Some x) = x
 
 pub some_same : {X : Type 0} {x y : X} (e : Path (Option X) (Some x) (Some y)) → x ≡ y
 some_same {x = x} e = ap (some_or_this x) e
+
+abbrev tail_of : List Token → List Token
+tail_of [] = []
+tail_of (t ∷ r) = r
+
+pub tail_same : {t u : Token} {r s : List Token} → t ∷ r ≡ u ∷ s → r ≡ s
+tail_same e = ap tail_of e

@@ -1,8 +1,8 @@
 -- The readers of initializers and declarations find what is spelled, and read it again.
-use Rattle.std.proofs.Common.{◌≡◌, ℕ, zero, suc, ◌+◌, ◌≤◌, ◌<◌, Bool, true, false, List, [], ◌∷◌, ◌++◌, length, refl, ap, sym, ◌∙◌, subst, Option, Some, None, Result, Ok, Err, ◌⊎◌, inl, inr, arith}
+use Rattle.std.proofs.Common.{◌≡◌, ℕ, zero, suc, ◌≤◌, List, [], ◌∷◌, ◌++◌, refl, ap, sym, ◌∙◌, Some, None, inl, arith}
 use Rattle.std.proofs.lemmas.List.{append-nil, append_assoc}
 use Rattle.c_lexer.specs.declared.token.Token.{Token}
-use Rattle.c_lexer.specs.declared.token.TokenKind.TheVariants.{Keyword, Name, Number, Character, Text, Punct}
+use Rattle.c_lexer.specs.declared.token.TokenKind.TheVariants.{Punct}
 use Rattle.c_tree.specs.declared.specifier.Specifier.{Specifier}
 use Rattle.c_tree.specs.declared.expression.Expr.{Expr}
 use Rattle.c_tree.specs.declared.expression.Declarator.{Declarator}
@@ -14,23 +14,22 @@ use Rattle.c_parser.specs.declared.start.Start.{Start}
 use Rattle.c_parser.specs.declared.start.Start.TheVariants as at
 use Rattle.c_parser.specs.declared.start.Naming.{Naming}
 use Rattle.c_parser.specs.declared.start.Naming.TheVariants as how
-use Rattle.c_parser.specs.Codes.{kinds, one_of, open_brace, close_brace, semicolon, equals, comma, specifier_starts, declarator_starts, binary_operators}
+use Rattle.c_parser.specs.Codes.{open_brace, close_brace, semicolon, equals, comma, specifier_starts, declarator_starts, binary_operators}
 use Rattle.c_parser.specs.Nodes.{Bytes}
 use Rattle.c_parser.specs.StatementNodes.{item_node, declaration_node}
-use Rattle.c_parser.specs.Spelling.{Spelling, One, Is, Sequence, Further, Listed, Maybe, ◌or◌, push}
+use Rattle.c_parser.specs.Spelling.{Spelling, One, Is, Sequence, Further, Listed, Maybe, push}
 use Rattle.c_parser.specs.Grammar.{IsSpecifiers, ExprAt, DeclaratorAt}
 use Rattle.c_parser.specs.Units.{AnyExpr, AnyDeclarator, IsInitializerLine, InitializerAt, IsInitializer, IsGiven, IsItem, IsDeclaration}
-use Rattle.c_parser.specs.Reading.{Reader, begins, and_then, one, pure, stop, choose, grown, listed, behind_comma, specifiers, expr_at, declarator_at}
+use Rattle.c_parser.specs.Reading.{Reader, expr_at, declarator_at}
 use Rattle.c_parser.specs.ReadingUnits.{initializer_list, initializer_line, initializer_at, given, item, further_items, declaration}
 use Rattle.c_parser.proofs.Sound.{Reads, reads_is, reads_wider}
-use Rattle.c_parser.proofs.Repeat.{Filled}
-use Rattle.c_parser.proofs.Starts.{Starts, apart, within, starts_filled, starts_one, starts_sequence, starts_either, starts_wider, begins_with, within_self}
-use Rattle.c_parser.proofs.Short.{reads_seq, reads_after, reads_map, reads_if, reads_swap, reads_repeat, reads_one, of}
+use Rattle.c_parser.proofs.Starts.{Starts, starts_filled, starts_one, starts_sequence, starts_either, starts_wider}
+use Rattle.c_parser.proofs.Short.{reads_seq, reads_after, reads_map, reads_if, reads_swap, reads_repeat, reads_one}
 use Rattle.c_parser.proofs.Words.{starts_specifiers, reads_specifiers, reads_listed, starts_comma}
 use Rattle.c_parser.proofs.FoundAt.{reads_stop, found_at, a_name, name_word, sample_expr}
 use Rattle.c_parser.proofs.ExprStarts.{expr_starts, starts_expr, starts_declarator}
-use Rattle.c_parser.proofs.Again.{Ahead, Off, On, Anything, Again, Clear, again_seq, again_is, again_token, again_after, again_behind, again_map, again_choose, again_if, again_maybe, again_swap, again_repeat, clear_starts, clear_is, clear_or, clear_grown, clear_sequence, again_narrower, again_ahead, again_fewer, off_within}
-use Rattle.c_parser.proofs.ExprAgain.{expr_on, level_on, declarator_on, again_specifiers, again_listed, clear_any, clear_one, off_of}
+use Rattle.c_parser.proofs.Again.{Ahead, Off, Anything, Again, Clear, again_seq, again_is, again_after, again_behind, again_map, again_if, again_maybe, again_swap, again_repeat, clear_starts, clear_is, clear_or, clear_grown, clear_sequence, again_narrower, again_ahead, again_fewer, off_within}
+use Rattle.c_parser.proofs.ExprAgain.{expr_on, level_on, declarator_on, again_specifiers, again_listed, clear_any, clear_one}
 use Rattle.c_parser.proofs.AgainAt.{again_at, nothing}
 
 pub reads_fewer : {A : Type 0} {n m : ℕ} {S : Spelling A} {R : Reader A} → m ≤ n → Reads n S R → Reads m S R
@@ -97,7 +96,7 @@ module _ (src : Bytes) where
         (reads_after (reads_one (suc d) open_brace (Punct 4) refl) (λ t. reads_seq (reads_listed h) (λ found. reads_seq (reads_one d close_brace (Punct 5) refl) (λ _. reads_is d _))))
         (reads_map i.Value (reads_fewer le (any_reads n at.Assignment))))
 
-    reads_initializer_at : (d : ℕ) → d ≤ n → Reads d (InitializerAt src (suc d)) (initializer_at E D d)
+    pub reads_initializer_at : (d : ℕ) → d ≤ n → Reads d (InitializerAt src (suc d)) (initializer_at E D d)
     unfolding InitializerAt initializer_at
     reads_initializer_at zero le = reads_stop (InitializerAt src 1) _ _ (sample_value (InitializerAt src 0))
     reads_initializer_at (suc d) le = reads_initializer_line d (InitializerAt src (suc d)) (initializer_at E D d) le (reads_initializer_at d (omega arith))
@@ -178,15 +177,35 @@ module _ (src : Bytes) where
     pub to_left : (x : Declaration) (w : List Token) → IsDeclaration src x w → FromLeft x w
     to_left x w h =
         let listed_part = h.second in
-        record { of = h.of; front = h.front; back = h.back; parts = h.parts; first = h.first;
-          second = record { of = listed_part.first.of; front = listed_part.first.front; back = listed_part.first.back ++ listed_part.back;
+        record {
+          of = h.of;
+          front = h.front;
+          back = h.back;
+          parts = h.parts;
+          first = h.first;
+          second = record {
+            of = listed_part.first.of;
+            front = listed_part.first.front;
+            back = listed_part.first.back ++ listed_part.back;
             parts = listed_part.parts ∙ (ap (λ v. v ++ listed_part.back) listed_part.first.parts ∙ append_assoc listed_part.first.front listed_part.first.back listed_part.back);
             first = listed_part.first.first;
-            second = record { of = listed_part.of; front = listed_part.first.back ++ listed_part.second.front; back = listed_part.second.back;
+            second = record {
+              of = listed_part.of;
+              front = listed_part.first.back ++ listed_part.second.front;
+              back = listed_part.second.back;
               parts = ap (λ v. listed_part.first.back ++ v) listed_part.second.parts ∙ sym (append_assoc listed_part.first.back listed_part.second.front listed_part.second.back);
-              first = record { of = listed_part.of; front = listed_part.first.back; back = listed_part.second.front; parts = refl; first = listed_part.first.second;
-                second = record { of = listed_part.second.of; front = listed_part.second.front; back = []; parts = sym (append-nil listed_part.second.front); first = listed_part.second.first; second = (refl, refl) } };
-              second = listed_part.second.second } } }
+              first = record {
+                of = listed_part.of;
+                front = listed_part.first.back;
+                back = listed_part.second.front;
+                parts = refl;
+                first = listed_part.first.second;
+                second = record { of = listed_part.second.of; front = listed_part.second.front; back = []; parts = sym (append-nil listed_part.second.front); first = listed_part.second.first; second = (refl, refl) };
+              };
+              second = listed_part.second.second;
+            };
+          };
+        }
 
     pub from_left : (x : Declaration) (w : List Token) → FromLeft x w → IsDeclaration src x w
     from_left x w h =
@@ -195,11 +214,21 @@ module _ (src : Bytes) where
         let end = more.first in
         let same : more.of ≡ end.of = end.second.second.0 in
         let value : x ≡ declaration_node h.of more.of = more.second.0 in
-        record { of = h.of; front = h.front; back = h.back; parts = h.parts; first = h.first;
-          second = record { of = end.of; front = one_item.front ++ end.front; back = end.second.front;
+        record {
+          of = h.of;
+          front = h.front;
+          back = h.back;
+          parts = h.parts;
+          first = h.first;
+          second = record {
+            of = end.of;
+            front = one_item.front ++ end.front;
+            back = end.second.front;
             parts = one_item.parts ∙ (ap (λ v. one_item.front ++ v) (more.parts ∙ (ap (λ v. more.front ++ v) more.second.1 ∙ (append-nil more.front ∙ (end.parts ∙ ap (λ v. end.front ++ v) (end.second.parts ∙ (ap (λ v. end.second.front ++ v) end.second.second.1 ∙ append-nil end.second.front)))))) ∙ sym (append_assoc one_item.front end.front end.second.front));
             first = record { of = one_item.of; front = one_item.front; back = end.front; parts = refl; first = one_item.first; second = end.first };
-            second = record { of = end.second.of; front = end.second.front; back = []; parts = sym (append-nil end.second.front); first = end.second.first; second = (value ∙ ap (declaration_node h.of) same, refl) } } }
+            second = record { of = end.second.of; front = end.second.front; back = []; parts = sym (append-nil end.second.front); first = end.second.first; second = (value ∙ ap (declaration_node h.of) same, refl) };
+          };
+        }
 
     pub reads_declaration : Reads n (IsDeclaration src) (declaration E D n)
     unfolding declaration

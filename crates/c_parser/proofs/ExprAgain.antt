@@ -1,44 +1,39 @@
 -- The readers of expressions and declarators read what is spelled.
-use Rattle.std.proofs.Common.{◌≡◌, ℕ, zero, suc, ◌+◌, ◌<◌, ◌≤◌, length, arith, length-append, not, ◌&&◌, subst, Bool, true, false, List, [], ◌∷◌, ◌++◌, refl, ap, sym, ◌∙◌, Option, Some, None, option_map, fold, ◌⊎◌, inl, inr}
+use Rattle.std.proofs.Common.{◌≡◌, ℕ, zero, suc, not, ◌&&◌, subst, Bool, true, false, List, [], ◌∷◌, ◌++◌, refl, ap, sym, ◌∙◌, Option, Some, None, ◌⊎◌, inl, inr}
 use Rattle.std.proofs.lemmas.List.{append-nil, append_assoc}
 use Rattle.c_lexer.specs.declared.token.Token.{Token}
-use Rattle.c_lexer.specs.declared.token.TokenKind.{TokenKind}
-use Rattle.c_lexer.specs.declared.token.TokenKind.TheVariants.{Keyword, Name, Number, Character, Text, Punct}
 use Rattle.c_tree.specs.declared.expression.TypeName.{TypeName}
 use Rattle.c_tree.specs.declared.operator.PrefixOp.{PrefixOp}
-use Rattle.c_tree.specs.declared.operator.BinaryOp.{BinaryOp}
 use Rattle.c_tree.specs.declared.expression.Expr.{Expr}
 use Rattle.c_tree.specs.declared.expression.Declarator.{Declarator}
 use Rattle.c_tree.specs.declared.expression.Direct.{Direct}
 use Rattle.c_tree.specs.declared.expression.Direct.TheVariants as d
 use Rattle.c_tree.specs.declared.expression.Suffix.{Suffix}
 use Rattle.c_tree.specs.declared.specifier.Pointer.{Pointer}
-use Rattle.c_tree.specs.declared.expression.ExprNode.{ExprNode}
 use Rattle.c_parser.specs.declared.start.Start.{Start}
 use Rattle.c_parser.specs.declared.start.Start.TheVariants as at
 use Rattle.c_parser.specs.declared.start.Naming.{Naming}
 use Rattle.c_parser.specs.declared.start.Naming.TheVariants as how
-use Rattle.c_parser.specs.Codes.{Table, code, code_of, one_of, kinds, name, number, character, text, open_bracket, open_paren, star, sizeof_word, step_operators, unary_operators, postfix_operators, specifier_starts, postfix_starts, suffix_starts, declarator_starts, binary_operators, levels}
-use Rattle.c_parser.specs.Spelling.{Spelling, Means, One, Sign, Is, Sequence, Many, Grown, Further, Some_of, Listed, Maybe, In_parens, Located, ◌or◌, line_at}
-use Rattle.c_parser.specs.Nodes.{Bytes, constant_node, at_line}
-use Rattle.c_parser.specs.Grammar.{IsSpecifiers, IsPointer, IsPointers, IsArray, IsParameter, IsFunction, IsSuffix, IsNamed, IsNested, IsBare, IsCore, IsPointerAlone, IsDeclaratorLine, IsTypeName, IsName, IsConstant, IsTexts, IsParenthesized, IsPrimary, IsIndex, IsCall, IsStep, IsPostfix, IsSizeof, IsPrefix, IsUnary, IsTyped, IsCast, IsOperation, IsLevel, IsConditional, IsAssigned, IsAssignment, IsExpression, IsExprLine, ExprAt, DeclaratorAt}
+use Rattle.c_parser.specs.Codes.{Table, kinds, name, number, character, text, open_bracket, open_paren, star, sizeof_word, step_operators, unary_operators, postfix_operators, specifier_starts, postfix_starts, suffix_starts, declarator_starts, binary_operators, levels}
+use Rattle.c_parser.specs.Spelling.{Spelling, One, Sign, Is, Sequence, Further, Listed, Maybe, In_parens, ◌or◌}
+use Rattle.c_parser.specs.Nodes.{Bytes}
+use Rattle.c_parser.specs.Grammar.{IsSpecifiers, IsPointer, IsPointers, IsArray, IsParameter, IsFunction, IsSuffix, IsNamed, IsNested, IsBare, IsCore, IsPointerAlone, IsDeclaratorLine, IsTypeName, IsName, IsConstant, IsTexts, IsParenthesized, IsPrimary, IsIndex, IsCall, IsStep, IsPostfix, IsSizeof, IsPrefix, IsUnary, IsTyped, IsCast, IsOperation, IsLevel, IsConditional, IsAssigned, IsAssignment, IsExpression, IsExprLine}
 use Rattle.c_parser.specs.Codes.{close_bracket, close_paren, question, colon, comma, of_table, assignment_operators, abstract_starts, qualifiers}
-use Rattle.c_parser.specs.Nodes.{name_node, text_node, text_of, parenthesized_node, index_node, call_node, postfix_node, prefix_node, sizeof_expr_node, sizeof_type_node, binary_node, conditional_node, cast_node, assign_node, comma_node, is_unary, type_node, parameter_node, direct_name, declarator_node}
-use Rattle.c_parser.specs.Grammar.{IsBranches, operated, IsParameters, IsArguments}
-use Rattle.c_parser.specs.Reading.{Reader, begins, and_then, one, sign, token, pure, stop, choose, grown, listed, behind_comma, in_parens, specifiers, pointers, begins_type, encloses, located, array, parameter, parameters, function, suffix, suffixes, named, nested, bare, core, core_starts, may_end, core_behind, declarator_line, type_name, texts, parenthesized, constant, primary, index, arguments, call, postfix_part, postfix, sizeof, prefix, unary, typed, cast, operation, level, branches, conditional, assigned, assignment, expression, expr_line, expr_at, declarator_at}
+use Rattle.c_parser.specs.Nodes.{name_node, text_node, text_of, parenthesized_node, index_node, call_node, postfix_node, prefix_node, sizeof_expr_node, sizeof_type_node, cast_node, assign_node, comma_node, is_unary, type_node, parameter_node, direct_name, declarator_node}
+use Rattle.c_parser.specs.Grammar.{IsBranches, operated}
+use Rattle.c_parser.specs.Reading.{Reader, begins, and_then, pure, choose, listed, in_parens, specifiers, pointers, begins_type, encloses, array, parameter, parameters, function, suffix, suffixes, named, nested, bare, core, core_starts, may_end, core_behind, declarator_line, type_name, texts, parenthesized, constant, primary, index, arguments, call, postfix_part, postfix, sizeof, prefix, unary, typed, cast, level, branches, conditional, assigned, assignment, expression, expr_line}
 use Rattle.c_parser.specs.Codes.{of_kind, specifier_words, parameter_starts}
 use Rattle.c_parser.specs.Grammar.{IsSpecifier}
 use Rattle.c_parser.specs.Nodes.{specifier_node, pointer_node, qualified}
 use Rattle.c_parser.specs.Spelling.{push}
 use Rattle.c_parser.specs.Reading.{specifier, pointer, then_begins, ◌<$>◌}
-use Rattle.c_parser.proofs.Past.{begins_other, begins_this}
+use Rattle.c_parser.proofs.Past.{begins_other}
 use Rattle.c_parser.proofs.Alike.{false_is_not_true}
-use Rattle.c_parser.proofs.Repeat.{Filled}
-use Rattle.c_parser.proofs.Starts.{Starts, apart, within, starts_filled, starts_one, starts_sign, starts_sequence, starts_wider, starts_either, starts_empty, begins_with, begins_apart, within_left, within_right, within_self, within_all, Pair, pair_append, pair_one, pair_first, pair_second, pair_apart}
-use Rattle.c_parser.proofs.Again.{Ahead, Off, On, Anything, Again, Clear, again_seq, again_is, again_token, again_after, again_behind, again_map, again_choose, again_if, again_maybe, again_swap, again_grown, again_repeat, clear_starts, clear_is, clear_or, clear_grown, clear_sequence, again_located, again_narrower, again_ahead, again_fewer, off_within}
-use Rattle.c_parser.proofs.Words.{starts_specifier, starts_specifiers, starts_pointer, starts_comma}
-use Rattle.c_parser.proofs.Unary.{unary_of_conditional, conditional_of_unary, unary_is_unary, behind_left}
-use Rattle.c_parser.proofs.ExprStarts.{expr_starts, primary_starts, starts_array, starts_function, starts_suffix, starts_parameter, starts_bare, starts_named, starts_nested, starts_core, filled_line, starts_name, starts_texts, starts_parenthesized, starts_constant, starts_primary, starts_index, starts_call, starts_step, starts_part, starts_postfix, starts_sizeof, starts_prefix, starts_unary, starts_typed, starts_cast, starts_level, starts_conditional, starts_assignment, starts_in_parens, starts_type_name}
+use Rattle.c_parser.proofs.Starts.{Starts, apart, within, starts_one, starts_sign, starts_sequence, starts_wider, starts_either, starts_empty, begins_with, begins_apart, within_left, within_right, within_self, Pair, pair_append, pair_one, pair_first, pair_second, pair_apart}
+use Rattle.c_parser.proofs.Again.{Ahead, Off, On, Anything, Again, Clear, again_seq, again_is, again_token, again_after, again_behind, again_map, again_choose, again_if, again_maybe, again_swap, again_repeat, clear_starts, clear_is, clear_or, clear_grown, clear_sequence, again_located, again_narrower, again_ahead, off_within}
+use Rattle.c_parser.proofs.Words.{starts_specifier, starts_pointer, starts_comma}
+use Rattle.c_parser.proofs.Unary.{conditional_of_unary, unary_is_unary, behind_left}
+use Rattle.c_parser.proofs.ExprStarts.{expr_starts, primary_starts, starts_array, starts_function, starts_suffix, starts_parameter, starts_bare, starts_named, starts_nested, filled_line, starts_name, starts_texts, starts_parenthesized, starts_constant, starts_index, starts_call, starts_step, starts_part, starts_postfix, starts_sizeof, starts_prefix, starts_type_name}
 
 -- what a line may go on with
 abbrev pub unary_on : List ℕ
@@ -167,7 +162,7 @@ module _ (src : Bytes) (n : ℕ) (SE : Start → Spelling Expr) (SD : Naming →
   again_array : {P : Ahead} → Again (suc n) (IsArray src SE SD) (array src E D) P
   unfolding array expr_on level_on binary_operators
   again_array = again_after (λ t. again_seq (again_empty expr_starts close_bracket None (starts_sequence expr_starts (SE at.Conditional) (se at.Conditional) _) refl
-        (again_map Some (again_ahead (off_of (close_bracket ∷ []) (expr_on at.Conditional) refl) (he at.Conditional))))
+      (again_map Some (again_ahead (off_of (close_bracket ∷ []) (expr_on at.Conditional) refl) (he at.Conditional))))
       (λ size. clear_on close_bracket _) (λ size. again_behind (λ _. again_is n _)))
 
   abbrev parameter_on : List ℕ
@@ -184,13 +179,13 @@ module _ (src : Bytes) (n : ℕ) (SE : Start → Spelling Expr) (SD : Naming →
   unfolding parameter
   again_parameter = again_seq (again_specifiers n) (λ ss. clear_declared declarator_starts specifier_starts parameter_on (SD how.Either) (parameter_node ss) (sd how.Either) refl refl)
       (λ ss. again_seq (again_declared declarator_starts declarator_on parameter_on (SD how.Either) (D how.Either) (sd how.Either) (hd how.Either) refl refl)
-        (λ declared. clear_is (parameter_node ss declared) (Off parameter_on) (Off parameter_on) (λ rest q. q)) (λ declared. again_is n (parameter_node ss declared)))
+      (λ declared. clear_is (parameter_node ss declared) (Off parameter_on) (Off parameter_on) (λ rest q. q)) (λ declared. again_is n (parameter_node ss declared)))
 
   again_function : {P : Ahead} → Again (suc n) (IsFunction src SE SD) (function src E D) P
   unfolding function parameters
   again_function = again_after (λ t. again_seq
       (again_empty specifier_starts close_paren [] (starts_sequence specifier_starts (IsParameter src SE SD) (starts_parameter src SE SD) _) refl
-        (again_ahead (off_of (close_paren ∷ []) (comma ∷ parameter_on) refl) (again_listed parameter_on (comma ∷ parameter_on) again_parameter refl refl refl)))
+      (again_ahead (off_of (close_paren ∷ []) (comma ∷ parameter_on) refl) (again_listed parameter_on (comma ∷ parameter_on) again_parameter refl refl refl)))
       (λ ps. clear_on close_paren _) (λ ps. again_behind (λ _. again_is n _)))
 
   again_suffix : {P : Ahead} → Again (suc n) (IsSuffix src SE SD) (suffix src E D) P
@@ -214,9 +209,14 @@ module _ (src : Bytes) (n : ℕ) (SE : Start → Spelling Expr) (SD : Naming →
 
   again_bare : Again (suc n) (IsBare src SE SD) (bare src E D) (Off declarator_on)
   unfolding bare
-  again_bare = again_narrower (λ x w h. record { of = h.first.of; front = h.first.front; back = h.first.back ++ h.back;
-        parts = h.parts ∙ (ap (λ v. v ++ h.back) h.first.parts ∙ append_assoc h.first.front h.first.back h.back); first = h.first.first;
-        second = record { of = h.of; front = h.first.back; back = h.back; parts = refl; first = h.first.second; second = h.second } })
+  again_bare = again_narrower (λ x w h. record {
+    of = h.first.of;
+    front = h.first.front;
+    back = h.first.back ++ h.back;
+    parts = h.parts ∙ (ap (λ v. v ++ h.back) h.first.parts ∙ append_assoc h.first.front h.first.back h.back);
+    first = h.first.first;
+    second = record { of = h.of; front = h.first.back; back = h.back; parts = refl; first = h.first.second; second = h.second };
+  })
       (again_seq {P = Anything} again_suffix (λ first. clear_any) (λ first. again_behind_suffixes (first ∷ []) (λ found. (d.Unnamed, found))))
 
   -- a `(` in front of a declarator encloses it, and one in front of parameters does not
@@ -224,7 +224,7 @@ module _ (src : Bytes) (n : ℕ) (SE : Start → Spelling Expr) (SD : Naming →
   unfolding encloses
   encloses_nested naming x f rest h =
       let p : Pair (open_paren ∷ []) declarator_starts f = pair_append (open_paren ∷ []) declarator_starts f h.front h.back h.parts
-        (pair_one open_paren declarator_starts _ (λ t. starts_sequence declarator_starts (SD naming) (sd naming) _) h.of h.front h.first) in
+      (pair_one open_paren declarator_starts _ (λ t. starts_sequence declarator_starts (SD naming) (sd naming) _) h.of h.front h.first) in
       ap (λ b. b && not (then_begins parameter_starts (f ++ rest))) (pair_first (open_paren ∷ []) declarator_starts (open_paren ∷ []) f rest p refl)
       ∙ ap (λ b. true && not b) (pair_apart (open_paren ∷ []) declarator_starts parameter_starts f rest p refl)
 
@@ -236,9 +236,9 @@ module _ (src : Bytes) (n : ℕ) (SE : Start → Spelling Expr) (SD : Naming →
   encloses_suffix x f rest (inl h) = ap (λ v. v && not (then_begins parameter_starts (f ++ rest))) (begins_apart (open_bracket ∷ []) (IsArray src SE SD) (starts_array src SE SD) (open_paren ∷ []) refl x f rest h)
   encloses_suffix x f rest (inr h) =
       let p : Pair (open_paren ∷ []) parameter_starts f =
-        pair_one open_paren parameter_starts _ (λ t. starts_empty parameter_starts (Listed (IsParameter src SE SD)) [] _
-          (starts_wider specifier_starts _ (starts_sequence specifier_starts (IsParameter src SE SD) (starts_parameter src SE SD) _) parameter_starts refl)
-          (λ ps. starts_wider (close_paren ∷ []) _ (starts_sequence (close_paren ∷ []) (One close_paren) (starts_one close_paren) _) parameter_starts refl)) x f h in
+      pair_one open_paren parameter_starts _ (λ t. starts_empty parameter_starts (Listed (IsParameter src SE SD)) [] _
+      (starts_wider specifier_starts _ (starts_sequence specifier_starts (IsParameter src SE SD) (starts_parameter src SE SD) _) parameter_starts refl)
+      (λ ps. starts_wider (close_paren ∷ []) _ (starts_sequence (close_paren ∷ []) (One close_paren) (starts_one close_paren) _) parameter_starts refl)) x f h in
       ap (λ b. begins (open_paren ∷ []) (f ++ rest) && not b) (pair_second (open_paren ∷ []) parameter_starts parameter_starts f rest p refl) ∙ and_false (begins (open_paren ∷ []) (f ++ rest))
 
   encloses_bare : (x : Direct × List Suffix) (f rest : List Token) → IsBare src SE SD x f → encloses (f ++ rest) ≡ false
@@ -305,7 +305,7 @@ module _ (src : Bytes) (n : ℕ) (SE : Start → Spelling Expr) (SD : Naming →
   unfolding type_name
   again_type_name = again_seq (again_specifiers n) (λ ss. clear_declared abstract_starts specifier_starts parameter_on (SD how.Unnamed) (type_node ss) su refl refl)
       (λ ss. again_seq (again_declared abstract_starts declarator_on parameter_on (SD how.Unnamed) (D how.Unnamed) su (hd how.Unnamed) refl refl)
-        (λ declared. clear_is (type_node ss declared) (Off parameter_on) (Off parameter_on) (λ rest q. q)) (λ declared. again_is n (type_node ss declared)))
+      (λ declared. clear_is (type_node ss declared) (Off parameter_on) (Off parameter_on) (λ rest q. q)) (λ declared. again_is n (type_node ss declared)))
 
   -- ---- expressions
 
@@ -328,9 +328,9 @@ module _ (src : Bytes) (n : ℕ) (SE : Start → Spelling Expr) (SD : Naming →
   again_primary : Again (suc n) (IsPrimary src SE SD) (primary src E D) (Off (text ∷ []))
   unfolding primary constant
   again_primary = again_if (name ∷ []) (text ∷ late_starts) (name ∷ []) (starts_name src SE SD) refl
-        (starts_either (text ∷ late_starts) (IsTexts src SE SD) (IsParenthesized src SE SD or IsConstant src SE SD) (starts_wider (text ∷ []) (IsTexts src SE SD) (starts_texts src SE SD) (text ∷ late_starts) refl)
-          (starts_wider late_starts (IsParenthesized src SE SD or IsConstant src SE SD) starts_late (text ∷ late_starts) refl)) refl
-        (again_map (name_node src) (again_token (suc n) (of_kind name)))
+      (starts_either (text ∷ late_starts) (IsTexts src SE SD) (IsParenthesized src SE SD or IsConstant src SE SD) (starts_wider (text ∷ []) (IsTexts src SE SD) (starts_texts src SE SD) (text ∷ late_starts) refl)
+      (starts_wider late_starts (IsParenthesized src SE SD or IsConstant src SE SD) starts_late (text ∷ late_starts) refl)) refl
+      (again_map (name_node src) (again_token (suc n) (of_kind name)))
       (again_if (text ∷ []) late_starts (text ∷ []) (starts_texts src SE SD) refl starts_late refl again_texts
       (again_if (open_paren ∷ []) (number ∷ character ∷ []) (open_paren ∷ []) (starts_parenthesized src SE SD) refl starts_constant refl again_parenthesized (again_token (suc n) _)))
 
@@ -342,15 +342,15 @@ module _ (src : Bytes) (n : ℕ) (SE : Start → Spelling Expr) (SD : Naming →
   unfolding call arguments expr_on level_on binary_operators
   again_call = again_after (λ t. again_seq
       (again_empty expr_starts close_paren [] (starts_sequence expr_starts (SE at.Assignment) (se at.Assignment) _) refl
-        (again_ahead (off_of (close_paren ∷ []) (comma ∷ expr_on at.Assignment) refl) (again_listed (expr_on at.Assignment) (comma ∷ expr_on at.Assignment) (he at.Assignment) refl refl refl)))
+      (again_ahead (off_of (close_paren ∷ []) (comma ∷ expr_on at.Assignment) refl) (again_listed (expr_on at.Assignment) (comma ∷ expr_on at.Assignment) (he at.Assignment) refl refl refl)))
       (λ xs. clear_on close_paren _) (λ xs. again_behind (λ _. again_is n (call_node t.line xs))))
 
   again_part : {P : Ahead} → Again (suc n) (IsIndex src SE SD or IsCall src SE SD or IsStep src SE SD) (postfix_part src E D) P
   unfolding postfix_part
   again_part = again_if (open_bracket ∷ []) (open_paren ∷ kinds postfix_operators) (open_bracket ∷ []) (starts_index src SE SD) refl
-        (starts_either (open_paren ∷ kinds postfix_operators) (IsCall src SE SD) (IsStep src SE SD) (starts_wider (open_paren ∷ []) (IsCall src SE SD) (starts_call src SE SD) (open_paren ∷ kinds postfix_operators) refl)
-          (starts_wider (kinds postfix_operators) (IsStep src SE SD) (starts_step src SE SD) (open_paren ∷ kinds postfix_operators) refl)) refl
-        again_index
+      (starts_either (open_paren ∷ kinds postfix_operators) (IsCall src SE SD) (IsStep src SE SD) (starts_wider (open_paren ∷ []) (IsCall src SE SD) (starts_call src SE SD) (open_paren ∷ kinds postfix_operators) refl)
+      (starts_wider (kinds postfix_operators) (IsStep src SE SD) (starts_step src SE SD) (open_paren ∷ kinds postfix_operators) refl)) refl
+      again_index
       (again_if (open_paren ∷ []) (kinds postfix_operators) (open_paren ∷ []) (starts_call src SE SD) refl (starts_step src SE SD) refl again_call (again_map (λ p. postfix_node p.0 p.1) (again_token (suc n) (of_table postfix_operators))))
 
   again_postfix : Again (suc n) (IsPostfix src SE SD) (postfix src E D) (Off unary_on)
@@ -426,8 +426,8 @@ module _ (src : Bytes) (n : ℕ) (SE : Start → Spelling Expr) (SD : Naming →
   again_level (suc l) = again_seq (again_level l)
       (λ x. clear_grown (operated src SE SD) x (clear_starts (kinds (binary_operators l)) (level_on l) (starts_operation l) (level_apart l)) (off_within (level_on l) (kinds (binary_operators l) ++ level_on l) (within_right (kinds (binary_operators l)) (level_on l))))
       (λ x. again_repeat (kinds (binary_operators l)) (level_on l) (kinds (binary_operators l) ++ level_on l) (operated src SE SD)
-        (again_behind (λ p. again_seq (again_level l) (λ y. clear_is (p, y) (Off (level_on l)) (Off (level_on l)) (λ rest q. q)) (λ y. again_is (suc n) (p, y))))
-        (starts_operation l) (level_apart l) (within_self (kinds (binary_operators l))) (within_left (kinds (binary_operators l)) (level_on l)) (within_right (kinds (binary_operators l)) (level_on l)) x)
+      (again_behind (λ p. again_seq (again_level l) (λ y. clear_is (p, y) (Off (level_on l)) (Off (level_on l)) (λ rest q. q)) (λ y. again_is (suc n) (p, y))))
+      (starts_operation l) (level_apart l) (within_self (kinds (binary_operators l))) (within_left (kinds (binary_operators l)) (level_on l)) (within_right (kinds (binary_operators l)) (level_on l)) x)
 
   again_branches : Again (suc n) (IsBranches src SE SD) (branches src E D) (Off (expr_on at.Conditional))
   unfolding branches expr_on level_on binary_operators
@@ -442,7 +442,7 @@ module _ (src : Bytes) (n : ℕ) (SE : Start → Spelling Expr) (SD : Naming →
   again_conditional = again_seq (again_level levels)
       (λ x. clear_or (clear_starts (question ∷ []) (level_on levels) (starts_sequence (question ∷ []) (IsBranches src SE SD) starts_branches _) refl) (clear_is x (Off (level_on levels)) (Off (expr_on at.Conditional)) (off_within (level_on levels) (expr_on at.Conditional) refl)))
       (λ x. again_maybe (question ∷ []) (question ∷ []) (starts_sequence (question ∷ []) (IsBranches src SE SD) starts_branches _) refl (clear_is x (Off (question ∷ [])) (Off (expr_on at.Conditional)) (off_within (question ∷ []) (expr_on at.Conditional) refl))
-        (again_map (λ f. f x) again_branches) (again_is (suc n) x))
+      (again_map (λ f. f x) again_branches) (again_is (suc n) x))
 
   again_assigned : (x : Expr) → Again (suc n) (IsAssigned src SE SD x) (assigned src E D x) (Off (expr_on at.Assignment))
   unfolding assigned
@@ -471,8 +471,14 @@ module _ (src : Bytes) (n : ℕ) (SE : Start → Spelling Expr) (SD : Naming →
 
   assignment_left : (y : Expr) (w : List Token) → IsAssignment src SE SD y w → Sequence (IsConditional src SE SD) (λ x. behind_left src SE SD (is_unary x) x) y w
   assignment_left y w (inl h) = record { of = y; front = w; back = []; parts = sym (append-nil w); first = h; second = nothing_behind (is_unary y) y }
-  assignment_left y w (inr h) = record { of = h.of; front = h.front; back = h.back; parts = h.parts; first = conditional_of_unary src SE SD h.of h.front h.first;
-      second = right_of (is_unary h.of) h.of y h.back (unary_is_unary src SE SD h.of h.front h.first) h.second }
+  assignment_left y w (inr h) = record {
+    of = h.of;
+    front = h.front;
+    back = h.back;
+    parts = h.parts;
+    first = conditional_of_unary src SE SD h.of h.front h.first;
+    second = right_of (is_unary h.of) h.of y h.back (unary_is_unary src SE SD h.of h.front h.first) h.second;
+  }
 
   pub again_assignment : Again (suc n) (IsAssignment src SE SD) (assignment src E D) (Off (expr_on at.Assignment))
   unfolding assignment

@@ -1,40 +1,38 @@
 -- The readers of expressions and declarators find what is spelled, and refuse where nothing can go on.
-use Rattle.std.proofs.Common.{◌≡◌, ℕ, zero, suc, ◌+◌, ◌<◌, ◌≤◌, length, arith, length-append, not, ◌&&◌, Bool, true, false, List, [], ◌∷◌, ◌++◌, refl, ap, sym, ◌∙◌, Option, Some, None, option_map, fold, ◌⊎◌, inl, inr}
-use Rattle.std.proofs.lemmas.List.{append-nil, append_assoc}
+use Rattle.std.proofs.Common.{◌≡◌, ℕ, suc, ◌+◌, ◌<◌, length, arith, length-append, not, ◌&&◌, Bool, true, false, List, [], ◌∷◌, ◌++◌, refl, ap, sym, ◌∙◌, Some, None, inl, inr}
+use Rattle.std.proofs.lemmas.List.{append_assoc}
 use Rattle.c_lexer.specs.declared.token.Token.{Token}
 use Rattle.c_lexer.specs.declared.token.TokenKind.{TokenKind}
-use Rattle.c_lexer.specs.declared.token.TokenKind.TheVariants.{Keyword, Name, Number, Character, Text, Punct}
+use Rattle.c_lexer.specs.declared.token.TokenKind.TheVariants.{Keyword, Name, Character, Text, Punct}
 use Rattle.c_tree.specs.declared.operator.PrefixOp.{PrefixOp}
 use Rattle.c_tree.specs.declared.operator.BinaryOp.{BinaryOp}
 use Rattle.c_tree.specs.declared.expression.Expr.{Expr}
 use Rattle.c_tree.specs.declared.expression.Declarator.{Declarator}
-use Rattle.c_tree.specs.declared.expression.Direct.{Direct}
 use Rattle.c_tree.specs.declared.expression.Direct.TheVariants as d
 use Rattle.c_tree.specs.declared.expression.Suffix.{Suffix}
 use Rattle.c_tree.specs.declared.specifier.Pointer.{Pointer}
-use Rattle.c_tree.specs.declared.expression.ExprNode.{ExprNode}
 use Rattle.c_parser.specs.declared.start.Start.{Start}
 use Rattle.c_parser.specs.declared.start.Start.TheVariants as at
 use Rattle.c_parser.specs.declared.start.Naming.{Naming}
 use Rattle.c_parser.specs.declared.start.Naming.TheVariants as how
-use Rattle.c_parser.specs.Codes.{Table, code, code_of, one_of, kinds, name, number, character, text, open_bracket, open_paren, star, sizeof_word, step_operators, unary_operators, postfix_operators, specifier_starts, postfix_starts, suffix_starts, declarator_starts, binary_operators, levels}
-use Rattle.c_parser.specs.Spelling.{Spelling, Means, One, Sign, Is, Sequence, Many, Grown, Further, Some_of, Listed, Maybe, In_parens, Located, ◌or◌, line_at}
-use Rattle.c_parser.specs.Nodes.{Bytes, constant_node, at_line}
-use Rattle.c_parser.specs.Grammar.{IsSpecifiers, IsPointer, IsPointers, IsArray, IsParameter, IsFunction, IsSuffix, IsNamed, IsNested, IsBare, IsCore, IsPointerAlone, IsDeclaratorLine, IsTypeName, IsName, IsConstant, IsTexts, IsParenthesized, IsPrimary, IsIndex, IsCall, IsStep, IsPostfix, IsSizeof, IsPrefix, IsUnary, IsTyped, IsCast, IsOperation, IsLevel, IsConditional, IsAssigned, IsAssignment, IsExpression, IsExprLine, ExprAt, DeclaratorAt}
-use Rattle.c_parser.specs.Codes.{close_bracket, close_paren, question, colon, comma, of_table, assignment_operators, abstract_starts, qualifiers}
-use Rattle.c_parser.specs.Nodes.{name_node, text_node, text_of, parenthesized_node, index_node, call_node, postfix_node, prefix_node, sizeof_expr_node, sizeof_type_node, binary_node, conditional_node, cast_node, assign_node, comma_node, is_unary, type_node, parameter_node, direct_name, declarator_node}
-use Rattle.c_parser.specs.Grammar.{IsBranches, operated, IsParameters, IsArguments}
-use Rattle.c_parser.specs.Reading.{Reader, begins, and_then, one, sign, token, pure, stop, choose, grown, listed, behind_comma, in_parens, specifiers, pointers, begins_type, encloses, located, array, parameter, parameters, function, suffix, suffixes, named, nested, bare, core, core_starts, may_end, core_behind, declarator_line, type_name, texts, parenthesized, constant, primary, index, arguments, call, postfix_part, postfix, sizeof, prefix, unary, typed, cast, operation, level, branches, conditional, assigned, assignment, expression, expr_line, expr_at, declarator_at}
-use Rattle.c_parser.proofs.Alike.{Alike, Heads, begins_alike, false_is_not_true}
-use Rattle.c_parser.proofs.Sound.{Reads, reads_is, reads_sequence, reads_choose, reads_token, reads_wider, reads_equal}
+use Rattle.c_parser.specs.Codes.{Table, kinds, name, text, open_bracket, open_paren, sizeof_word, step_operators, unary_operators, postfix_operators, postfix_starts, suffix_starts, declarator_starts, binary_operators, levels}
+use Rattle.c_parser.specs.Spelling.{Spelling, One, Sign, Is, Sequence, Further, Listed, In_parens, ◌or◌}
+use Rattle.c_parser.specs.Nodes.{Bytes}
+use Rattle.c_parser.specs.Grammar.{IsArray, IsParameter, IsFunction, IsSuffix, IsNamed, IsNested, IsBare, IsCore, IsPointerAlone, IsDeclaratorLine, IsTypeName, IsConstant, IsTexts, IsParenthesized, IsPrimary, IsIndex, IsCall, IsStep, IsPostfix, IsSizeof, IsPrefix, IsUnary, IsTyped, IsCast, IsOperation, IsLevel, IsConditional, IsAssigned, IsAssignment, IsExpression, IsExprLine}
+use Rattle.c_parser.specs.Codes.{close_bracket, close_paren, question, colon, comma, of_table, assignment_operators, abstract_starts}
+use Rattle.c_parser.specs.Nodes.{name_node, text_node, text_of, parenthesized_node, index_node, call_node, postfix_node, prefix_node, sizeof_expr_node, sizeof_type_node, cast_node, assign_node, comma_node, is_unary, type_node, parameter_node, direct_name, declarator_node}
+use Rattle.c_parser.specs.Grammar.{IsBranches, IsArguments}
+use Rattle.c_parser.specs.Reading.{Reader, begins, and_then, sign, pure, choose, in_parens, pointers, begins_type, encloses, array, parameter, parameters, function, suffix, suffixes, named, nested, bare, core, core_starts, may_end, core_behind, declarator_line, type_name, texts, parenthesized, constant, primary, index, arguments, call, postfix_part, postfix, sizeof, prefix, unary, typed, cast, level, branches, conditional, assigned, assignment, expression, expr_line}
+use Rattle.c_parser.proofs.Alike.{Heads, begins_alike}
+use Rattle.c_parser.proofs.Sound.{Reads, reads_is, reads_choose, reads_token, reads_wider}
 use Rattle.c_parser.proofs.Repeat.{Filled}
-use Rattle.c_parser.proofs.Peek.{Steady, Past, reads_peek, reads_located}
+use Rattle.c_parser.proofs.Peek.{Past, reads_peek, reads_located}
 use Rattle.c_parser.proofs.Past.{past_seq, past_first, past_other, past_this, steady_encloses, encloses_first, steady_type, type_first}
 use Rattle.c_parser.proofs.Starts.{Starts, starts_filled, starts_one, starts_sign, starts_sequence}
 use Rattle.c_parser.proofs.Short.{reads_seq, reads_after, reads_map, reads_if, reads_swap, reads_repeat, reads_one, reads_sign, heads_begins, of}
 use Rattle.c_parser.proofs.Words.{reads_specifiers, reads_pointers, reads_listed, reads_in_parens, starts_comma}
 use Rattle.c_parser.proofs.Unary.{unary_of_conditional, same_word, behind_left}
-use Rattle.c_parser.proofs.ExprStarts.{expr_starts, primary_starts, starts_suffix, starts_bare, starts_named, starts_nested, starts_core, on_line, filled_line, moved, starts_part, starts_unary, starts_typed, starts_cast, starts_level, starts_conditional, starts_in_parens, starts_type_name, starts_primary}
+use Rattle.c_parser.proofs.ExprStarts.{expr_starts, primary_starts, starts_suffix, starts_bare, starts_nested, on_line, filled_line, moved, starts_part, starts_unary, starts_typed, starts_in_parens, starts_primary}
 
 module _ (src : Bytes) (n : ℕ) (SE : Start → Spelling Expr) (SD : Naming → Spelling Declarator) (E : Start → Reader Expr) (D : Naming → Reader Declarator)
     (he : (start : Start) → Reads n (SE start) (E start)) (hd : (naming : Naming) → Reads n (SD naming) (D naming))
@@ -81,8 +79,14 @@ module _ (src : Bytes) (n : ℕ) (SE : Start → Spelling Expr) (SD : Naming →
   pub reads_bare : Reads (suc n) (IsBare src SE SD) (bare src E D)
   unfolding bare
   reads_bare = reads_wider (suc n) (Sequence (IsSuffix src SE SD) (λ first. Sequence (Further (IsSuffix src SE SD) (first ∷ [])) (λ found. Is (d.Unnamed, found)))) (IsBare src SE SD) (bare src E D)
-      (λ x w h. record { of = h.second.of; front = h.front ++ h.second.front; back = h.second.back; parts = h.parts ∙ (ap (λ v. h.front ++ v) h.second.parts ∙ sym (append_assoc h.front h.second.front h.second.back));
-          first = record { of = h.of; front = h.front; back = h.second.front; parts = refl; first = h.first; second = h.second.first }; second = h.second.second })
+      (λ x w h. record {
+        of = h.second.of;
+        front = h.front ++ h.second.front;
+        back = h.second.back;
+        parts = h.parts ∙ (ap (λ v. h.front ++ v) h.second.parts ∙ sym (append_assoc h.front h.second.front h.second.back));
+        first = record { of = h.of; front = h.front; back = h.second.front; parts = refl; first = h.first; second = h.second.first };
+        second = h.second.second;
+      })
       (reads_seq reads_suffix (λ first. reads_seq (reads_suffixes (first ∷ [])) (λ found. reads_is (suc n) (d.Unnamed, found))))
 
   past_nested : (naming : Naming) → Past (suc n) (begins (open_paren ∷ [])) (nested src E D naming)
@@ -202,9 +206,9 @@ module _ (src : Bytes) (n : ℕ) (SE : Start → Spelling Expr) (SD : Naming →
   unfolding sizeof
   reads_sizeof = reads_after (reads_one (suc n) sizeof_word (Keyword 24) refl) (λ t.
       reads_peek n begins_type (begins (open_paren ∷ [])) _ _ _ _ (reads_map (sizeof_type_node t.line) (in_parens_here reads_type_name)) (reads_map (sizeof_expr_node t.line) (he at.Unary))
-        steady_type (heads_begins (open_paren ∷ [])) type_first
-        (filled_map (sizeof_type_node t.line) (In_parens (IsTypeName src SE SD)) (filled_parens (IsTypeName src SE SD))) (filled_map (sizeof_expr_node t.line) (SE at.Unary) (filled_expr at.Unary))
-        (past_sizeof_type t) (past_seq pe (he at.Unary) (filled_expr at.Unary) (λ x. reads_is n (sizeof_expr_node t.line x))))
+      steady_type (heads_begins (open_paren ∷ [])) type_first
+      (filled_map (sizeof_type_node t.line) (In_parens (IsTypeName src SE SD)) (filled_parens (IsTypeName src SE SD))) (filled_map (sizeof_expr_node t.line) (SE at.Unary) (filled_expr at.Unary))
+      (past_sizeof_type t) (past_seq pe (he at.Unary) (filled_expr at.Unary) (λ x. reads_is n (sizeof_expr_node t.line x))))
 
   pub reads_unary : Reads (suc n) (IsUnary src SE SD) (unary src E D)
   unfolding unary

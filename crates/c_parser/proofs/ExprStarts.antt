@@ -1,6 +1,6 @@
 -- What the lines of expressions and declarators begin with.
-use Rattle.std.proofs.Common.{◌≡◌, ℕ, zero, suc, ◌+◌, Bool, true, false, List, [], ◌∷◌, ◌++◌, refl, ap, sym, ◌∙◌, Option, Some, None, option_map, fold, ◌⊎◌, inl, inr}
-use Rattle.std.proofs.lemmas.List.{append-nil, append_assoc}
+use Rattle.std.proofs.Common.{◌≡◌, ℕ, zero, suc, true, List, [], ◌∷◌, ◌++◌, refl, ap, sym, ◌∙◌, Some, option_map, fold, inl, inr}
+use Rattle.std.proofs.lemmas.List.{append_assoc}
 use Rattle.c_lexer.specs.declared.token.Token.{Token}
 use Rattle.c_lexer.specs.declared.token.TokenKind.{TokenKind}
 use Rattle.c_lexer.specs.declared.token.TokenKind.TheVariants.{Keyword, Name, Number, Character, Text, Punct}
@@ -10,17 +10,16 @@ use Rattle.c_tree.specs.declared.expression.Declarator.{Declarator}
 use Rattle.c_tree.specs.declared.expression.Direct.{Direct}
 use Rattle.c_tree.specs.declared.expression.Suffix.{Suffix}
 use Rattle.c_tree.specs.declared.specifier.Pointer.{Pointer}
-use Rattle.c_tree.specs.declared.expression.ExprNode.{ExprNode}
 use Rattle.c_parser.specs.declared.start.Start.{Start}
 use Rattle.c_parser.specs.declared.start.Start.TheVariants as at
 use Rattle.c_parser.specs.declared.start.Naming.{Naming}
 use Rattle.c_parser.specs.declared.start.Naming.TheVariants as n
-use Rattle.c_parser.specs.Codes.{Table, code, code_of, one_of, kinds, name, number, character, text, open_bracket, open_paren, star, sizeof_word, step_operators, unary_operators, postfix_operators, specifier_starts, postfix_starts, suffix_starts, declarator_starts, binary_operators, levels}
-use Rattle.c_parser.specs.Spelling.{Spelling, Means, One, Sign, Is, Sequence, Many, Grown, Further, Some_of, Listed, Maybe, In_parens, Located, ◌or◌, line_at}
+use Rattle.c_parser.specs.Codes.{Table, code_of, one_of, kinds, name, number, character, text, open_bracket, open_paren, star, sizeof_word, step_operators, unary_operators, postfix_operators, specifier_starts, postfix_starts, suffix_starts, declarator_starts, levels}
+use Rattle.c_parser.specs.Spelling.{Spelling, Means, One, Sign, Is, Sequence, Many, Some_of, In_parens, ◌or◌, line_at}
 use Rattle.c_parser.specs.Nodes.{Bytes, constant_node, at_line, declarator_node}
-use Rattle.c_parser.specs.Grammar.{IsSpecifiers, IsPointer, IsPointers, IsArray, IsParameter, IsFunction, IsSuffix, IsNamed, IsNested, IsBare, IsCore, IsPointerAlone, IsDeclaratorLine, IsTypeName, IsName, IsConstant, IsTexts, IsParenthesized, IsPrimary, IsIndex, IsCall, IsStep, IsPostfix, IsSizeof, IsPrefix, IsUnary, IsTyped, IsCast, IsOperation, IsLevel, IsConditional, IsAssigned, IsAssignment, IsExpression, IsExprLine, ExprAt, DeclaratorAt}
+use Rattle.c_parser.specs.Grammar.{IsSpecifiers, IsPointer, IsPointers, IsArray, IsParameter, IsFunction, IsSuffix, IsNamed, IsNested, IsBare, IsCore, IsPointerAlone, IsDeclaratorLine, IsTypeName, IsName, IsConstant, IsTexts, IsParenthesized, IsPrimary, IsIndex, IsCall, IsStep, IsPostfix, IsSizeof, IsPrefix, IsUnary, IsTyped, IsCast, IsLevel, IsConditional, IsAssigned, IsAssignment, IsExpression, IsExprLine, ExprAt, DeclaratorAt}
 use Rattle.c_parser.proofs.Repeat.{Filled}
-use Rattle.c_parser.proofs.Starts.{Opens, Starts, within, starts_filled, starts_wider, starts_sequence, starts_either, starts_one, starts_sign}
+use Rattle.c_parser.proofs.Starts.{Opens, Starts, starts_filled, starts_wider, starts_sequence, starts_either, starts_one, starts_sign}
 use Rattle.c_parser.proofs.Words.{starts_specifiers, starts_pointer}
 
 abbrev pub primary_starts : List ℕ
@@ -80,7 +79,7 @@ module _ (src : Bytes) (SE : Start → Spelling Expr) (SD : Naming → Spelling 
   starts_core n.Either = starts_either declarator_starts (IsNamed src SE SD) (IsNested src SE SD n.Either or IsBare src SE SD)
       (starts_wider (name ∷ []) (IsNamed src SE SD) starts_named declarator_starts refl)
       (starts_either declarator_starts (IsNested src SE SD n.Either) (IsBare src SE SD)
-        (starts_wider (open_paren ∷ []) (IsNested src SE SD n.Either) (starts_nested n.Either) declarator_starts refl) (starts_wider suffix_starts (IsBare src SE SD) starts_bare declarator_starts refl))
+      (starts_wider (open_paren ∷ []) (IsNested src SE SD n.Either) (starts_nested n.Either) declarator_starts refl) (starts_wider suffix_starts (IsBare src SE SD) starts_bare declarator_starts refl))
 
   -- behind no pointer there is a core
   no_pointer : (naming : Naming) (ps : List Pointer) (x : Direct × List Suffix) (w : List Token) → ps ≡ [] → IsPointerAlone src SE SD naming ps x w → ⊥
@@ -108,9 +107,17 @@ module _ (src : Bytes) (SE : Start → Spelling Expr) (SD : Naming → Spelling 
   on_line naming line = Sequence IsPointers (λ ps. Sequence (IsCore src SE SD naming or IsPointerAlone src SE SD naming ps) (λ found. Is (declarator_node line ps found.0 found.1)))
 
   pub moved : (naming : Naming) (l k : ℕ) (x : Declarator) (w : List Token) → on_line naming l x w → (y : Declarator) × on_line naming k y w
-  moved naming l k x w h =
-      (declarator_node k h.of h.second.of.0 h.second.of.1, record { of = h.of; front = h.front; back = h.back; parts = h.parts; first = h.first;
-          second = record { of = h.second.of; front = h.second.front; back = h.second.back; parts = h.second.parts; first = h.second.first; second = (refl, h.second.second.1) } })
+  moved naming l k x w h = (
+    declarator_node k h.of h.second.of.0 h.second.of.1,
+    record {
+      of = h.of;
+      front = h.front;
+      back = h.back;
+      parts = h.parts;
+      first = h.first;
+      second = record { of = h.second.of; front = h.second.front; back = h.second.back; parts = h.second.parts; first = h.second.first; second = (refl, h.second.second.1) };
+    },
+  )
 
   pub filled_line : (naming : Naming) (line : ℕ) → Filled (on_line naming line)
   filled_line naming line x w h = let y = moved naming line (line_at w) x w h in starts_filled declarator_starts (IsDeclaratorLine src SE SD naming) (starts_declarator_line naming) y.0 w y.1
@@ -159,10 +166,10 @@ module _ (src : Bytes) (SE : Start → Spelling Expr) (SD : Naming → Spelling 
   starts_unary =
       starts_either expr_starts (IsSizeof src SE SD) (IsPrefix src SE SD step_operators at.Unary or IsPrefix src SE SD unary_operators at.Cast or IsPostfix src SE SD) (starts_wider (sizeof_word ∷ []) (IsSizeof src SE SD) starts_sizeof expr_starts refl)
       (starts_either expr_starts (IsPrefix src SE SD step_operators at.Unary) (IsPrefix src SE SD unary_operators at.Cast or IsPostfix src SE SD)
-        (starts_wider (kinds step_operators) (IsPrefix src SE SD step_operators at.Unary) (starts_prefix step_operators at.Unary) expr_starts refl)
+      (starts_wider (kinds step_operators) (IsPrefix src SE SD step_operators at.Unary) (starts_prefix step_operators at.Unary) expr_starts refl)
       (starts_either expr_starts (IsPrefix src SE SD unary_operators at.Cast) (IsPostfix src SE SD)
-        (starts_wider (kinds unary_operators) (IsPrefix src SE SD unary_operators at.Cast) (starts_prefix unary_operators at.Cast) expr_starts refl)
-        (starts_wider primary_starts (IsPostfix src SE SD) starts_postfix expr_starts refl)))
+      (starts_wider (kinds unary_operators) (IsPrefix src SE SD unary_operators at.Cast) (starts_prefix unary_operators at.Cast) expr_starts refl)
+      (starts_wider primary_starts (IsPostfix src SE SD) starts_postfix expr_starts refl)))
 
   pub starts_typed : Starts (open_paren ∷ []) (IsTyped src SE SD)
   starts_typed = starts_sequence (open_paren ∷ []) (One open_paren) (starts_one open_paren) _

@@ -1,10 +1,9 @@
 -- The readers of expressions and declarators at a depth find what is spelled.
-use Rattle.std.proofs.Common.{◌≡◌, ℕ, zero, suc, ◌≤◌, ◌<◌, Bool, true, false, List, [], ◌∷◌, ◌++◌, length, refl, ap, sym, ◌∙◌, Option, Some, None, Result, Ok, Err, ◌⊎◌, inl, inr, arith}
+use Rattle.std.proofs.Common.{ℕ, zero, suc, ◌≤◌, List, [], ◌∷◌, length, refl, sym, Result, Err, inl, inr, arith}
 use Rattle.c_lexer.specs.declared.token.Token.{Token}
-use Rattle.c_lexer.specs.declared.token.TokenKind.TheVariants.{Keyword, Name, Number, Character, Text, Punct}
+use Rattle.c_lexer.specs.declared.token.TokenKind.TheVariants.{Name, Punct}
 use Rattle.c_tree.specs.declared.expression.Expr.{Expr}
 use Rattle.c_tree.specs.declared.expression.Declarator.{Declarator}
-use Rattle.c_tree.specs.declared.expression.Direct.{Direct}
 use Rattle.c_tree.specs.declared.expression.Direct.TheVariants as d
 use Rattle.c_parser.specs.declared.start.Start.{Start}
 use Rattle.c_parser.specs.declared.start.Start.TheVariants as at
@@ -31,12 +30,12 @@ stopped S x word sample (t ∷ w) left few e = absurd (omega arith)
 -- no tokens
 pub reads_stop : {A : Type 0} (S : Spelling A) (x : A) (word : List Token) → S x word → Reads 0 S stop
 reads_stop {A = A} S x word sample = record {
-    found = λ w y rest e. absurd (ok_is_no_err {X = A × List Token} (y, rest) (length w) (sym e));
-    fault = λ w left few e. stopped S x word sample w left few e;
-    whole = x;
-    word = word;
-    sample = sample;
-  }
+  found = λ w y rest e. absurd (ok_is_no_err {X = A × List Token} (y, rest) (length w) (sym e));
+  fault = λ w left few e. stopped S x word sample w left few e;
+  whole = x;
+  word = word;
+  sample = sample;
+}
 
 -- ---- samples
 
@@ -48,8 +47,14 @@ module _ (src : Bytes) (SE : Start → Spelling Expr) (SD : Naming → Spelling 
   name_word = of Name ∷ []
 
   sample_unary : IsUnary src SE SD a_name name_word
-  sample_unary = inr (inr (inr (record { of = a_name; front = name_word; back = []; parts = refl;
-      first = inl (record { of = of Name; front = name_word; back = []; parts = refl; first = (of Name, refl, refl); second = (refl, refl) }); second = ([], refl, refl) })))
+  sample_unary = inr (inr (inr (record {
+    of = a_name;
+    front = name_word;
+    back = [];
+    parts = refl;
+    first = inl (record { of = of Name; front = name_word; back = []; parts = refl; first = (of Name, refl, refl); second = (refl, refl) });
+    second = ([], refl, refl);
+  })))
 
   sample_assignment : IsAssignment src SE SD a_name name_word
   sample_assignment = inl (conditional_of_unary src SE SD a_name name_word sample_unary)
@@ -68,15 +73,30 @@ module _ (src : Bytes) (SE : Start → Spelling Expr) (SD : Naming → Spelling 
   sample_named = record { of = of Name; front = name_word; back = []; parts = refl; first = (of Name, refl, refl); second = record { of = []; front = []; back = []; parts = refl; first = ([], refl, refl); second = (refl, refl) } }
 
   named_line : (naming : Naming) → IsCore src SE SD naming (direct_name src (of Name), []) name_word → IsDeclaratorLine src SE SD naming (declarator_node 0 [] (direct_name src (of Name)) []) name_word
-  named_line naming h = record { of = []; front = []; back = name_word; parts = refl; first = ([], refl, refl);
-      second = record { of = (direct_name src (of Name), []); front = name_word; back = []; parts = refl; first = inl h; second = (refl, refl) } }
+  named_line naming h = record {
+    of = [];
+    front = [];
+    back = name_word;
+    parts = refl;
+    first = ([], refl, refl);
+    second = record { of = (direct_name src (of Name), []); front = name_word; back = []; parts = refl; first = inl h; second = (refl, refl) };
+  }
 
   sample_declarator : (naming : Naming) → (x : Declarator) × (w : List Token) × IsDeclaratorLine src SE SD naming x w
   sample_declarator how.Named = (declarator_node 0 [] (direct_name src (of Name)) [], name_word, named_line how.Named (inl sample_named))
   sample_declarator how.Either = (declarator_node 0 [] (direct_name src (of Name)) [], name_word, named_line how.Either (inl sample_named))
-  sample_declarator how.Unnamed = (declarator_node 0 (pointer_node 0 ∷ []) d.Unnamed [], a_star ∷ [], record { of = pointer_node 0 ∷ []; front = a_star ∷ []; back = []; parts = refl;
+  sample_declarator how.Unnamed = (
+    declarator_node 0 (pointer_node 0 ∷ []) d.Unnamed [],
+    a_star ∷ [],
+    record {
+      of = pointer_node 0 ∷ [];
+      front = a_star ∷ [];
+      back = [];
+      parts = refl;
       first = (pointer_node 0 ∷ [], (a_star ∷ [], [], refl, record { of = a_star; front = a_star ∷ []; back = []; parts = refl; first = (a_star, refl, refl); second = ([], refl, refl) }, refl), refl);
-      second = record { of = (d.Unnamed, []); front = []; back = []; parts = refl; first = inr (refl, refl); second = (refl, refl) } })
+      second = record { of = (d.Unnamed, []); front = []; back = []; parts = refl; first = inr (refl, refl); second = (refl, refl) };
+    },
+  )
 
 -- ---- at each depth
 
@@ -93,10 +113,10 @@ past_none R (t ∷ w) left few b e = absurd (omega arith)
 pub found_at : (src : Bytes) (depth : ℕ) → FoundAt src depth
 unfolding ExprAt DeclaratorAt expr_at declarator_at
 found_at src zero = record {
-    expr = λ start. reads_stop (ExprAt src 1 start) (name_node src (of Name)) (of Name ∷ []) (sample_expr src (ExprAt src 0) (DeclaratorAt src 0) start);
-    declarator = λ naming. (let s = sample_declarator src (ExprAt src 0) (DeclaratorAt src 0) naming in reads_stop (DeclaratorAt src 1 naming) s.0 s.1 s.2);
-    past = past_none (expr_at src 0 at.Unary);
-  }
+  expr = λ start. reads_stop (ExprAt src 1 start) (name_node src (of Name)) (of Name ∷ []) (sample_expr src (ExprAt src 0) (DeclaratorAt src 0) start);
+  declarator = λ naming. (let s = sample_declarator src (ExprAt src 0) (DeclaratorAt src 0) naming in reads_stop (DeclaratorAt src 1 naming) s.0 s.1 s.2);
+  past = past_none (expr_at src 0 at.Unary);
+}
 found_at src (suc depth) =
     let below = found_at src depth in
     record {

@@ -20,4 +20,10 @@ pub mod Declarations
 pub mod Statements
 pub mod StatementsAgain
 pub mod UnitLaws
+pub mod Enough
+pub mod EnoughExpr
+pub mod EnoughUnit
+pub mod RefusalLaws
+pub mod ParseLaws
+pub mod Depths
 pub mod Ladder

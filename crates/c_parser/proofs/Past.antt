@@ -1,14 +1,14 @@
 -- A reader whose first token is there refuses behind it.
-use Rattle.std.proofs.Common.{◌≡◌, ℕ, zero, suc, ◌+◌, ◌≤◌, ◌<◌, Bool, true, false, not, ◌&&◌, ◌||◌, List, [], ◌∷◌, ◌++◌, length, refl, ap, sym, ◌∙◌, subst, Option, Some, None, Result, Ok, Err, ◌⊎◌, inl, inr, if◌then◌else◌, ◌==◌, append_assoc, length-append, arith}
+use Rattle.std.proofs.Common.{◌≡◌, ℕ, suc, ◌+◌, ◌≤◌, ◌<◌, Bool, true, false, not, ◌&&◌, ◌||◌, List, [], ◌∷◌, length, refl, ap, sym, ◌∙◌, Some, None, Err, inl, inr, if◌then◌else◌, ◌==◌, length-append, arith}
 use Rattle.c_lexer.specs.declared.token.Token.{Token}
-use Rattle.c_parser.specs.Codes.{code, one_of, of_kind, open_paren, specifier_starts, parameter_starts}
+use Rattle.c_parser.specs.Codes.{code, of_kind, open_paren, specifier_starts, parameter_starts}
 use Rattle.c_parser.specs.Spelling.{Spelling}
 use Rattle.c_parser.specs.Reading.{Reader, begins, then_begins, begins_type, encloses, and_then, token, taken, choose}
-use Rattle.c_parser.proofs.Alike.{Alike, begins_alike, and_then_err, false_is_not_true}
+use Rattle.c_parser.proofs.Alike.{begins_alike, and_then_err, false_is_not_true}
 use Rattle.c_parser.proofs.Sound.{Reads}
 use Rattle.c_parser.proofs.Repeat.{Filled}
 use Rattle.c_parser.proofs.Peek.{Steady, Past}
-use Rattle.c_parser.proofs.Starts.{apart, within, within_one, apart_one, and_both, or_either}
+use Rattle.c_parser.proofs.Starts.{apart, within, within_one, apart_one, and_both}
 
 pub reads_bound : {A : Type 0} {n : ℕ} {S : Spelling A} {R : Reader A} → Reads n S R → (w : List Token) (left : ℕ) → length w ≤ n → R w ≡ Err left → left ≤ length w
 reads_bound h w left few e =
@@ -18,13 +18,14 @@ reads_bound h w left few e =
 
 pub past_seq : {A B : Type 0} {n : ℕ} {first : List Token → Bool} {S : Spelling A} {R : Reader A} {T : A → Spelling B} {f : A → Reader B} → Past n first R → Reads n S R → Filled S → ((a : A) → Reads n (T a) (f a)) → Past n first (λ w. and_then (R w) f)
 past_seq {n = n} {R = R} {f = f} past h filled g w left few b e = elim (and_then_err (R w) f left e) [
-      inl d ↦ past w left few b d
-    | inr p ↦
-        (let one = h.found w p.0.0 p.0.1 p.1 in
-        let full : 0 < length one.front = filled p.0.0 one.front one.by in
-        let sum : length w ≡ length one.front + length p.0.1 = ap length one.parts ∙ length-append one.front p.0.1 in
-        let low : left ≤ length p.0.1 = reads_bound (g p.0.0) p.0.1 left (omega arith) p.2 in
-        omega arith) ]
+  | inl d ↦ past w left few b d
+  | inr p ↦
+      (let one = h.found w p.0.0 p.0.1 p.1 in
+      let full : 0 < length one.front = filled p.0.0 one.front one.by in
+      let sum : length w ≡ length one.front + length p.0.1 = ap length one.parts ∙ length-append one.front p.0.1 in
+      let low : left ≤ length p.0.1 = reads_bound (g p.0.0) p.0.1 left (omega arith) p.2 in
+      omega arith)
+]
 
 taken_kind : (k : ℕ) (t : Token) (b : Bool) → (code t == k) ≡ b → (b || false) ≡ true → of_kind k t ≡ Some t
 taken_kind k t true e d = ap (λ v. if v then Some t else None) e

@@ -1,5 +1,5 @@
 -- A choice by two tokens, and a line with the line of its first token.
-use Rattle.std.proofs.Common.{◌≡◌, ℕ, zero, suc, ◌+◌, ◌≤◌, ◌<◌, Bool, true, false, List, [], ◌∷◌, ◌++◌, length, refl, ap, sym, ◌∙◌, subst, Option, Some, None, Result, Ok, Err, ◌⊎◌, inl, inr, if◌then◌else◌, append_assoc, length-append, arith}
+use Rattle.std.proofs.Common.{◌≡◌, ℕ, ◌≤◌, ◌<◌, Bool, true, false, List, [], ◌∷◌, ◌++◌, length, refl, ap, sym, ◌∙◌, subst, Ok, Err, inl, inr, if◌then◌else◌, arith}
 use Rattle.c_lexer.specs.declared.token.Token.{Token}
 use Rattle.c_parser.specs.Spelling.{Spelling, Located, ◌or◌, line_at}
 use Rattle.c_parser.specs.Reading.{Reader, choose, located}
@@ -63,12 +63,12 @@ module _ {A : Type 0} (n : ℕ) (test first : List Token → Bool) (S T : Spelli
 
   pub reads_peek : Reads n (S or T) (choose test R Q)
   reads_peek = record {
-      found = λ w x rest h. peek_found (test w) w x rest refl h;
-      fault = λ w left few h. peek_fault (test w) w left few refl h;
-      whole = s.whole;
-      word = s.word;
-      sample = inl s.sample;
-    }
+    found = λ w x rest h. peek_found (test w) w x rest refl h;
+    fault = λ w left few h. peek_fault (test w) w left few refl h;
+    whole = s.whole;
+    word = s.word;
+    sample = inl s.sample;
+  }
 
 -- ---- with the line of the first token
 
@@ -109,8 +109,8 @@ module _ {A : Type 0} (n : ℕ) (S : ℕ → Spelling A) (R : ℕ → Reader A) 
         whole = y.0;
         viable = y.1;
         same = λ t r other d.
-          (let near : Alike (one.front ++ one.rest) (one.front ++ t ∷ other) = alike_append one.front one.rest (t ∷ other) (alike_cons one.rest t r other d) in
-          ap (λ k. R k (one.front ++ t ∷ other)) (sym (line_alike (one.front ++ one.rest) (one.front ++ t ∷ other) near) ∙ ap line_at (sym one.parts)) ∙ one.same t r other d);
+            (let near : Alike (one.front ++ one.rest) (one.front ++ t ∷ other) = alike_append one.front one.rest (t ∷ other) (alike_cons one.rest t r other d) in
+            ap (λ k. R k (one.front ++ t ∷ other)) (sym (line_alike (one.front ++ one.rest) (one.front ++ t ∷ other) near) ∙ ap line_at (sym one.parts)) ∙ one.same t r other d);
       }
 
   pub reads_located : Reads n (Located S) (located R)

@@ -1,10 +1,10 @@
 -- A repetition finds what it spells, and refuses where an item does.
-use Rattle.std.proofs.Common.{◌≡◌, ℕ, zero, suc, ◌+◌, ◌≤◌, ◌<◌, Bool, true, false, List, [], ◌∷◌, ◌++◌, length, refl, ap, sym, ◌∙◌, subst, Option, Some, None, Result, Ok, Err, ◌⊎◌, inl, inr, if◌then◌else◌, append_assoc, length-append, arith, fold}
+use Rattle.std.proofs.Common.{◌≡◌, ℕ, zero, suc, ◌+◌, ◌≤◌, ◌<◌, Bool, true, false, List, [], ◌∷◌, ◌++◌, length, refl, ap, sym, ◌∙◌, subst, Ok, Err, inl, inr, if◌then◌else◌, append_assoc, length-append, arith}
 use Rattle.std.proofs.lemmas.List.{append-nil}
 use Rattle.c_lexer.specs.declared.token.Token.{Token}
-use Rattle.c_parser.specs.Spelling.{Spelling, Many, Grown}
-use Rattle.c_parser.specs.Reading.{Reader, and_then, choose, grown_from, grown}
-use Rattle.c_parser.proofs.Alike.{Alike, alike_append, Heads, heads_front, and_then_ok, and_then_err, ok_same, ok_is_no_err}
+use Rattle.c_parser.specs.Spelling.{Spelling, Grown}
+use Rattle.c_parser.specs.Reading.{Reader, and_then, grown_from, grown}
+use Rattle.c_parser.proofs.Alike.{Alike, alike_append, Heads, and_then_ok, and_then_err, ok_same, ok_is_no_err}
 use Rattle.c_parser.proofs.Sound.{Found, Fault, Reads, sequence_same, sequence_parts, test_front}
 
 abbrev pub Filled : {A : Type 0} → Spelling A → Type 0
@@ -41,39 +41,39 @@ module _ {A B : Type 0} (n : ℕ) (test : List Token → Bool) (grow : A → B �
 
   none : (a : A) (w : List Token) (x : A) (rest : List Token) → test w ≡ false → a ≡ x → w ≡ rest → FoundBy a w x rest
   none a w x rest e p q = record {
-      front = [];
-      parts = q;
-      by = ([], refl, sym p);
-      same = λ other m alike few.
+    front = [];
+    parts = q;
+    by = ([], refl, sym p);
+    same = λ other m alike few.
         (let quiet : test other ≡ false = sym (heads w other (let P : List Token → Type 0 = λ v. Alike v other in subst P (sym q) alike)) ∙ e in
         rests m a other quiet ∙ ap (λ v. Ok (v, other)) p);
-    }
+  }
 
   one_more : (a : A) (w : List Token) (b : B) (mid : List Token) (x : A) (rest : List Token) → test w ≡ true → Found S r w b mid → FoundBy (grow a b) mid x rest → FoundBy a w x rest
   one_more a w b mid x rest e one two = record {
-      front = one.front ++ two.front;
-      parts = sequence_parts w one.front two.front mid rest one.parts two.parts;
-      by = (b ∷ two.by.0, (one.front, two.front, refl, one.by, two.by.1), two.by.2);
-      same = λ other m alike few. again other alike m few;
-    }
+    front = one.front ++ two.front;
+    parts = sequence_parts w one.front two.front mid rest one.parts two.parts;
+    by = (b ∷ two.by.0, (one.front, two.front, refl, one.by, two.by.1), two.by.2);
+    same = λ other m alike few. again other alike m few;
+  }
     where
-    again : (other : List Token) → Alike rest other → (m : ℕ) → length ((one.front ++ two.front) ++ other) ≤ m → grown_from test grow r m a ((one.front ++ two.front) ++ other) ≡ Ok (x, other)
-    again other alike zero few =
-        let full : 0 < length one.front = filled b one.front one.by in
-        let l1 : length ((one.front ++ two.front) ++ other) ≡ length (one.front ++ two.front) + length other = length-append (one.front ++ two.front) other in
-        let l2 : length (one.front ++ two.front) ≡ length one.front + length two.front = length-append one.front two.front in
-        absurd (omega arith)
-    again other alike (suc m) few =
-        let full : 0 < length one.front = filled b one.front one.by in
-        let l1 : length ((one.front ++ two.front) ++ other) ≡ length (one.front ++ two.front) + length other = length-append (one.front ++ two.front) other in
-        let l2 : length (one.front ++ two.front) ≡ length one.front + length two.front = length-append one.front two.front in
-        let l3 : length (two.front ++ other) ≡ length two.front + length other = length-append two.front other in
-        let near : Alike (one.front ++ mid) ((one.front ++ two.front) ++ other) =
+      again : (other : List Token) → Alike rest other → (m : ℕ) → length ((one.front ++ two.front) ++ other) ≤ m → grown_from test grow r m a ((one.front ++ two.front) ++ other) ≡ Ok (x, other)
+      again other alike zero few =
+          let full : 0 < length one.front = filled b one.front one.by in
+          let l1 : length ((one.front ++ two.front) ++ other) ≡ length (one.front ++ two.front) + length other = length-append (one.front ++ two.front) other in
+          let l2 : length (one.front ++ two.front) ≡ length one.front + length two.front = length-append one.front two.front in
+          absurd (omega arith)
+      again other alike (suc m) few =
+          let full : 0 < length one.front = filled b one.front one.by in
+          let l1 : length ((one.front ++ two.front) ++ other) ≡ length (one.front ++ two.front) + length other = length-append (one.front ++ two.front) other in
+          let l2 : length (one.front ++ two.front) ≡ length one.front + length two.front = length-append one.front two.front in
+          let l3 : length (two.front ++ other) ≡ length two.front + length other = length-append two.front other in
+          let near : Alike (one.front ++ mid) ((one.front ++ two.front) ++ other) =
           (let P : List Token → Type 0 = λ v. Alike v ((one.front ++ two.front) ++ other) in
           subst P (sym (sequence_parts (one.front ++ mid) one.front two.front mid rest refl two.parts)) (alike_append (one.front ++ two.front) rest other alike)) in
-        let t : test ((one.front ++ two.front) ++ other) ≡ true = sym (heads (one.front ++ mid) ((one.front ++ two.front) ++ other) near) ∙ (ap test (sym one.parts) ∙ e) in
-        goes m a ((one.front ++ two.front) ++ other) t
-        ∙ sequence_same r (λ c. grown_from test grow r m (grow a c)) b one.front two.front mid rest other (Ok (x, other)) two.parts one.same alike (two.same other m alike (omega arith))
+          let t : test ((one.front ++ two.front) ++ other) ≡ true = sym (heads (one.front ++ mid) ((one.front ++ two.front) ++ other) near) ∙ (ap test (sym one.parts) ∙ e) in
+          goes m a ((one.front ++ two.front) ++ other) t
+          ∙ sequence_same r (λ c. grown_from test grow r m (grow a c)) b one.front two.front mid rest other (Ok (x, other)) two.parts one.same alike (two.same other m alike (omega arith))
 
   turn_found : (turns : ℕ) → ((a : A) (w : List Token) (x : A) (rest : List Token) → length w ≤ turns → grown_from test grow r turns a w ≡ Ok (x, rest) → FoundBy a w x rest)
       → (a : A) (w : List Token) (x : A) (rest : List Token) → length w ≤ suc turns → grown_from test grow r (suc turns) a w ≡ Ok (x, rest) → (b : Bool) → test w ≡ b → FoundBy a w x rest
@@ -97,63 +97,64 @@ module _ {A B : Type 0} (n : ℕ) (test : List Token → Bool) (grow : A → B �
   -- an item refuses
   here : (a : A) (w : List Token) (left : ℕ) → test w ≡ true → Fault S r w left → FaultBy a w left
   here a w left e one = record {
-      front = one.front;
-      rest = one.rest;
-      parts = one.parts;
-      at = one.at;
-      more = one.more;
-      whole = grow a one.whole;
-      viable = (one.whole ∷ [], (one.front ++ one.more, [], sym (append-nil (one.front ++ one.more)), one.viable, refl), refl);
-      same = λ t s other m d few. again t s other d m few;
-    }
+    front = one.front;
+    rest = one.rest;
+    parts = one.parts;
+    at = one.at;
+    more = one.more;
+    whole = grow a one.whole;
+    viable = (one.whole ∷ [], (one.front ++ one.more, [], sym (append-nil (one.front ++ one.more)), one.viable, refl), refl);
+    same = λ t s other m d few. again t s other d m few;
+  }
     where
-    again : (t : Token) (s other : List Token) → one.rest ≡ t ∷ s → (m : ℕ) → length (one.front ++ t ∷ other) ≤ m → grown_from test grow r m a (one.front ++ t ∷ other) ≡ Err (length (t ∷ other))
-    again t s other d zero few =
-        let sum : length (one.front ++ t ∷ other) ≡ length one.front + length (t ∷ other) = length-append one.front (t ∷ other) in absurd (omega arith)
-    again t s other d (suc m) few =
-        goes m a (one.front ++ t ∷ other) (test_front test heads true w one.front one.rest t s other e one.parts d)
-        ∙ ap (λ v. and_then v (λ c. grown_from test grow r m (grow a c))) (one.same t s other d)
+      again : (t : Token) (s other : List Token) → one.rest ≡ t ∷ s → (m : ℕ) → length (one.front ++ t ∷ other) ≤ m → grown_from test grow r m a (one.front ++ t ∷ other) ≡ Err (length (t ∷ other))
+      again t s other d zero few =
+          let sum : length (one.front ++ t ∷ other) ≡ length one.front + length (t ∷ other) = length-append one.front (t ∷ other) in absurd (omega arith)
+      again t s other d (suc m) few =
+          goes m a (one.front ++ t ∷ other) (test_front test heads true w one.front one.rest t s other e one.parts d)
+          ∙ ap (λ v. and_then v (λ c. grown_from test grow r m (grow a c))) (one.same t s other d)
 
   -- a later item refuses
   later : (a : A) (w : List Token) (b : B) (mid : List Token) (left : ℕ) → test w ≡ true → Found S r w b mid → FaultBy (grow a b) mid left → FaultBy a w left
   later a w b mid left e one two = record {
-      front = one.front ++ two.front;
-      rest = two.rest;
-      parts = sequence_parts w one.front two.front mid two.rest one.parts two.parts;
-      at = two.at;
-      more = two.more;
-      whole = two.whole;
-      viable = (b ∷ two.viable.0, (one.front, two.front ++ two.more, append_assoc one.front two.front two.more, one.by, two.viable.1), two.viable.2);
-      same = λ t s other m d few. again t s other d m few;
-    }
+    front = one.front ++ two.front;
+    rest = two.rest;
+    parts = sequence_parts w one.front two.front mid two.rest one.parts two.parts;
+    at = two.at;
+    more = two.more;
+    whole = two.whole;
+    viable = (b ∷ two.viable.0, (one.front, two.front ++ two.more, append_assoc one.front two.front two.more, one.by, two.viable.1), two.viable.2);
+    same = λ t s other m d few. again t s other d m few;
+  }
     where
-    again : (t : Token) (s other : List Token) → two.rest ≡ t ∷ s → (m : ℕ) → length ((one.front ++ two.front) ++ t ∷ other) ≤ m → grown_from test grow r m a ((one.front ++ two.front) ++ t ∷ other) ≡ Err (length (t ∷ other))
-    again t s other d zero few =
-        let sum : length ((one.front ++ two.front) ++ t ∷ other) ≡ length (one.front ++ two.front) + length (t ∷ other) = length-append (one.front ++ two.front) (t ∷ other) in absurd (omega arith)
-    again t s other d (suc m) few =
-        let full : 0 < length one.front = filled b one.front one.by in
-        let l1 : length ((one.front ++ two.front) ++ t ∷ other) ≡ length (one.front ++ two.front) + length (t ∷ other) = length-append (one.front ++ two.front) (t ∷ other) in
-        let l2 : length (one.front ++ two.front) ≡ length one.front + length two.front = length-append one.front two.front in
-        let l3 : length (two.front ++ t ∷ other) ≡ length two.front + length (t ∷ other) = length-append two.front (t ∷ other) in
-        let alike : Alike two.rest (t ∷ other) = (let P : List Token → Type 0 = λ v. Alike v (t ∷ other) in subst P (sym d) refl) in
-        let near : Alike (one.front ++ mid) ((one.front ++ two.front) ++ t ∷ other) =
+      again : (t : Token) (s other : List Token) → two.rest ≡ t ∷ s → (m : ℕ) → length ((one.front ++ two.front) ++ t ∷ other) ≤ m → grown_from test grow r m a ((one.front ++ two.front) ++ t ∷ other) ≡ Err (length (t ∷ other))
+      again t s other d zero few =
+          let sum : length ((one.front ++ two.front) ++ t ∷ other) ≡ length (one.front ++ two.front) + length (t ∷ other) = length-append (one.front ++ two.front) (t ∷ other) in absurd (omega arith)
+      again t s other d (suc m) few =
+          let full : 0 < length one.front = filled b one.front one.by in
+          let l1 : length ((one.front ++ two.front) ++ t ∷ other) ≡ length (one.front ++ two.front) + length (t ∷ other) = length-append (one.front ++ two.front) (t ∷ other) in
+          let l2 : length (one.front ++ two.front) ≡ length one.front + length two.front = length-append one.front two.front in
+          let l3 : length (two.front ++ t ∷ other) ≡ length two.front + length (t ∷ other) = length-append two.front (t ∷ other) in
+          let alike : Alike two.rest (t ∷ other) = (let P : List Token → Type 0 = λ v. Alike v (t ∷ other) in subst P (sym d) refl) in
+          let near : Alike (one.front ++ mid) ((one.front ++ two.front) ++ t ∷ other) =
           (let P : List Token → Type 0 = λ v. Alike v ((one.front ++ two.front) ++ t ∷ other) in
           subst P (sym (sequence_parts (one.front ++ mid) one.front two.front mid two.rest refl two.parts)) (alike_append (one.front ++ two.front) two.rest (t ∷ other) alike)) in
-        let at : test ((one.front ++ two.front) ++ t ∷ other) ≡ true = sym (heads (one.front ++ mid) ((one.front ++ two.front) ++ t ∷ other) near) ∙ (ap test (sym one.parts) ∙ e) in
-        goes m a ((one.front ++ two.front) ++ t ∷ other) at
-        ∙ sequence_same r (λ c. grown_from test grow r m (grow a c)) b one.front two.front mid two.rest (t ∷ other) (Err (length (t ∷ other))) two.parts one.same alike (two.same t s other m d (omega arith))
+          let at : test ((one.front ++ two.front) ++ t ∷ other) ≡ true = sym (heads (one.front ++ mid) ((one.front ++ two.front) ++ t ∷ other) near) ∙ (ap test (sym one.parts) ∙ e) in
+          goes m a ((one.front ++ two.front) ++ t ∷ other) at
+          ∙ sequence_same r (λ c. grown_from test grow r m (grow a c)) b one.front two.front mid two.rest (t ∷ other) (Err (length (t ∷ other))) two.parts one.same alike (two.same t s other m d (omega arith))
 
   turn_fault : (turns : ℕ) → ((a : A) (w : List Token) (left : ℕ) → length w ≤ turns → length w ≤ n → grown_from test grow r turns a w ≡ Err left → FaultBy a w left)
       → (a : A) (w : List Token) (left : ℕ) → length w ≤ suc turns → length w ≤ n → grown_from test grow r (suc turns) a w ≡ Err left → (b : Bool) → test w ≡ b → FaultBy a w left
   turn_fault turns before a w left few low e true d =
       let whole : and_then (r w) (λ c. grown_from test grow r turns (grow a c)) ≡ Err left = sym (goes turns a w d) ∙ e in
       elim (and_then_err (r w) (λ c. grown_from test grow r turns (grow a c)) left whole) [
-        inl q ↦ here a w left d (h.fault w left low q)
-      | inr p ↦
-          (let one = h.found w p.0.0 p.0.1 p.1 in
-          let full : 0 < length one.front = filled p.0.0 one.front one.by in
-          let sum : length w ≡ length one.front + length p.0.1 = ap length one.parts ∙ length-append one.front p.0.1 in
-          later a w p.0.0 p.0.1 left d one (before (grow a p.0.0) p.0.1 left (omega arith) (omega arith) p.2)) ]
+        | inl q ↦ here a w left d (h.fault w left low q)
+        | inr p ↦
+            (let one = h.found w p.0.0 p.0.1 p.1 in
+            let full : 0 < length one.front = filled p.0.0 one.front one.by in
+            let sum : length w ≡ length one.front + length p.0.1 = ap length one.parts ∙ length-append one.front p.0.1 in
+            later a w p.0.0 p.0.1 left d one (before (grow a p.0.0) p.0.1 left (omega arith) (omega arith) p.2))
+      ]
   turn_fault turns before a w left few low e false d = absurd (ok_is_no_err (a, w) left (sym (rests (suc turns) a w d) ∙ e))
 
   fault_by : (turns : ℕ) (a : A) (w : List Token) (left : ℕ) → length w ≤ turns → length w ≤ n → grown_from test grow r turns a w ≡ Err left → FaultBy a w left
@@ -163,13 +164,13 @@ module _ {A B : Type 0} (n : ℕ) (test : List Token → Bool) (grow : A → B �
 
   pub reads_grown : (a : A) → Reads n (Grown grow S a) (grown test grow r a)
   reads_grown a = record {
-      found = λ w x rest e.
+    found = λ w x rest e.
         (let one = found_by (length w) a w x rest (omega arith) e in
         record { front = one.front; parts = one.parts; by = one.by; same = λ other alike. one.same other (length (one.front ++ other)) alike (omega arith) });
-      fault = λ w left low e.
+    fault = λ w left low e.
         (let one = fault_by (length w) a w left (omega arith) low e in
         record { front = one.front; rest = one.rest; parts = one.parts; at = one.at; more = one.more; whole = one.whole; viable = one.viable; same = λ t s other d. one.same t s other (length (one.front ++ t ∷ other)) d (omega arith) });
-      whole = a;
-      word = [];
-      sample = ([], refl, refl);
-    }
+    whole = a;
+    word = [];
+    sample = ([], refl, refl);
+  }

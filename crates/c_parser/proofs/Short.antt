@@ -1,10 +1,10 @@
 -- The laws of readers in the short forms in which the lines of the grammar use them.
-use Rattle.std.proofs.Common.{◌≡◌, ℕ, zero, suc, ◌+◌, Bool, true, false, List, [], ◌∷◌, ◌++◌, length, refl, ap, sym, ◌∙◌, subst, Option, Some, None, Result, Ok, Err, ◌⊎◌, inl, inr, arith}
+use Rattle.std.proofs.Common.{◌≡◌, ℕ, suc, false, List, [], refl, Option, Some, inl, inr}
 use Rattle.c_lexer.specs.declared.token.Token.{Token}
 use Rattle.c_lexer.specs.declared.token.TokenKind.{TokenKind}
-use Rattle.c_parser.specs.Codes.{Table, code, one_of, kinds, of_kind, of_table, comma, open_paren, close_paren}
-use Rattle.c_parser.specs.Spelling.{Spelling, Means, One, Sign, Is, Sequence, Grown, Further, Listed, Maybe, In_parens, ◌or◌, push}
-use Rattle.c_parser.specs.Reading.{Reader, begins, and_then, token, one, sign, pure, choose, grown, listed, behind_comma, in_parens}
+use Rattle.c_parser.specs.Codes.{Table, of_kind, of_table}
+use Rattle.c_parser.specs.Spelling.{Spelling, Means, One, Sign, Is, Sequence, Grown, ◌or◌}
+use Rattle.c_parser.specs.Reading.{Reader, begins, and_then, token, one, sign, pure, choose, grown}
 use Rattle.c_parser.proofs.Alike.{Heads, begins_alike}
 use Rattle.c_parser.proofs.Sound.{Reads, reads_sequence, reads_is, reads_token, reads_choose, reads_wider, gap_token, gap_same}
 use Rattle.c_parser.proofs.Repeat.{Filled, reads_grown}

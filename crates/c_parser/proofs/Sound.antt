@@ -1,7 +1,6 @@
 -- What a reader finds is spelled so; where it refuses, the tokens before can be continued, and no token alike to
 -- the refused one helps.
-use Rattle.std.proofs.Common.{◌≡◌, ℕ, suc, ◌+◌, ◌≤◌, ◌<◌, Bool, true, false, List, [], ◌∷◌, ◌++◌, length, refl, ap, sym, ◌∙◌, subst, Option, Some, None, Result, Ok, Err, ◌⊎◌, inl, inr, if◌then◌else◌, append_assoc, length-append, arith}
-use Rattle.std.proofs.lemmas.List.{append-nil}
+use Rattle.std.proofs.Common.{◌≡◌, ℕ, suc, ◌+◌, ◌≤◌, Bool, true, false, List, [], ◌∷◌, ◌++◌, length, refl, ap, sym, ◌∙◌, subst, Option, Some, None, Result, Ok, Err, inl, inr, if◌then◌else◌, append_assoc, length-append, arith}
 use Rattle.c_lexer.specs.declared.token.Token.{Token}
 use Rattle.c_parser.specs.Spelling.{Spelling, Means, Is, Sequence, ◌or◌}
 use Rattle.c_parser.specs.Reading.{Reader, and_then, token, taken, pure, choose}
@@ -64,7 +63,7 @@ module _ {A B : Type 0} (n m : ℕ) (S : Spelling A) (R : Reader A) (T : A → S
 
   sequence_fault : (w : List Token) (left : ℕ) → length w ≤ n → and_then (R w) f ≡ Err left → Fault (Sequence S T) (λ v. and_then (R v) f) w left
   sequence_fault w left few e = elim (and_then_err (R w) f left e) [
-      inl d ↦
+    | inl d ↦
         (let one = h.fault w left few d in
         record {
           front = one.front;
@@ -92,31 +91,32 @@ module _ {A B : Type 0} (n m : ℕ) (S : Spelling A) (R : Reader A) (T : A → S
           whole = two.whole;
           viable = record { of = a; front = one.front; back = two.front ++ two.more; parts = append_assoc one.front two.front two.more; first = one.by; second = two.viable };
           same = λ t r other same.
-            (let near : Alike two.rest (t ∷ other) = (let P : List Token → Type 0 = λ v. Alike v (t ∷ other) in subst P (sym same) refl) in
-            sequence_same R f a one.front two.front mid two.rest (t ∷ other) (Err (length (t ∷ other))) two.parts one.same near (two.same t r other same));
-        }) ]
+              (let near : Alike two.rest (t ∷ other) = (let P : List Token → Type 0 = λ v. Alike v (t ∷ other) in subst P (sym same) refl) in
+              sequence_same R f a one.front two.front mid two.rest (t ∷ other) (Err (length (t ∷ other))) two.parts one.same near (two.same t r other same));
+        })
+  ]
 
   pub reads_sequence : Reads n (Sequence S T) (λ w. and_then (R w) f)
   reads_sequence = record {
-      found = sequence_found;
-      fault = sequence_fault;
-      whole = (g h.whole).whole;
-      word = h.word ++ (g h.whole).word;
-      sample = record { of = h.whole; front = h.word; back = (g h.whole).word; parts = refl; first = h.sample; second = (g h.whole).sample };
-    }
+    found = sequence_found;
+    fault = sequence_fault;
+    whole = (g h.whole).whole;
+    word = h.word ++ (g h.whole).word;
+    sample = record { of = h.whole; front = h.word; back = (g h.whole).word; parts = refl; first = h.sample; second = (g h.whole).sample };
+  }
 
 -- ---- no token, and one token
 
 pub reads_is : {A : Type 0} (n : ℕ) (a : A) → Reads n (Is a) (pure a)
 reads_is n a = record {
-    found = λ w x rest e.
+  found = λ w x rest e.
       (let p : (a, w) ≡ (x, rest) = ok_same (a, w) (x, rest) e in
       record { front = []; parts = ap (λ r. r.1) p; by = (sym (ap (λ r. r.0) p), refl); same = λ other alike. ap (λ v. Ok (v, other)) (ap (λ r. r.0) p) });
-    fault = λ w left few e. absurd (cc);
-    whole = a;
-    word = [];
-    sample = (refl, refl);
-  }
+  fault = λ w left few e. absurd (cc);
+  whole = a;
+  word = [];
+  sample = (refl, refl);
+}
 
 module _ {A : Type 0} (n : ℕ) (f : Token → Option A) where
   token_found : (t : Token) (r : List Token) (o : Option A) → f t ≡ o → (x : A) (rest : List Token) → taken t r o ≡ Ok (x, rest) → Found (Means f) (token f) (t ∷ r) x rest
@@ -155,12 +155,12 @@ module _ {A : Type 0} (n : ℕ) (f : Token → Option A) where
 
   pub reads_token : (x : A) (t : Token) → f t ≡ Some x → Reads n (Means f) (token f)
   reads_token x t e = record {
-      found = token_found_all;
-      fault = λ w left few h. token_fault_all x (t ∷ []) (t, refl, e) w left h;
-      whole = x;
-      word = t ∷ [];
-      sample = (t, refl, e);
-    }
+    found = token_found_all;
+    fault = λ w left few h. token_fault_all x (t ∷ []) (t, refl, e) w left h;
+    whole = x;
+    word = t ∷ [];
+    sample = (t, refl, e);
+  }
 
 pub gap_token : {A : Type 0} (n : ℕ) (f : Token → Option A) → Gap (Means f) (suc n) n
 gap_token n f a w h = rw h.1 (omega arith)
@@ -198,29 +198,29 @@ module _ {A : Type 0} (n : ℕ) (test : List Token → Bool) (S T : Spelling A) 
 
   pub reads_choose : Reads n (S or T) (choose test R Q)
   reads_choose = record {
-      found = λ w x rest h. choose_found (test w) w x rest refl h;
-      fault = λ w left few h. choose_fault (test w) w left few refl h;
-      whole = s.whole;
-      word = s.word;
-      sample = inl s.sample;
-    }
+    found = λ w x rest h. choose_found (test w) w x rest refl h;
+    fault = λ w left few h. choose_fault (test w) w left few refl h;
+    whole = s.whole;
+    word = s.word;
+    sample = inl s.sample;
+  }
 
 -- ---- changes
 
 pub reads_wider : {A : Type 0} (n : ℕ) (S S' : Spelling A) (R : Reader A) → ((x : A) (w : List Token) → S x w → S' x w) → Reads n S R → Reads n S' R
 reads_wider n S S' R into h = record {
-    found = λ w x rest e. (let one = h.found w x rest e in record { front = one.front; parts = one.parts; by = into x one.front one.by; same = one.same });
-    fault = λ w left few e. (let one = h.fault w left few e in record { front = one.front; rest = one.rest; parts = one.parts; at = one.at; more = one.more; whole = one.whole; viable = into one.whole (one.front ++ one.more) one.viable; same = one.same });
-    whole = h.whole;
-    word = h.word;
-    sample = into h.whole h.word h.sample;
-  }
+  found = λ w x rest e. (let one = h.found w x rest e in record { front = one.front; parts = one.parts; by = into x one.front one.by; same = one.same });
+  fault = λ w left few e. (let one = h.fault w left few e in record { front = one.front; rest = one.rest; parts = one.parts; at = one.at; more = one.more; whole = one.whole; viable = into one.whole (one.front ++ one.more) one.viable; same = one.same });
+  whole = h.whole;
+  word = h.word;
+  sample = into h.whole h.word h.sample;
+}
 
 pub reads_equal : {A : Type 0} (n : ℕ) (S : Spelling A) (R R' : Reader A) → ((w : List Token) → R' w ≡ R w) → Reads n S R → Reads n S R'
 reads_equal n S R R' into h = record {
-    found = λ w x rest e. (let one = h.found w x rest (sym (into w) ∙ e) in record { front = one.front; parts = one.parts; by = one.by; same = λ other alike. into (one.front ++ other) ∙ one.same other alike });
-    fault = λ w left few e. (let one = h.fault w left few (sym (into w) ∙ e) in record { front = one.front; rest = one.rest; parts = one.parts; at = one.at; more = one.more; whole = one.whole; viable = one.viable; same = λ t r other d. into (one.front ++ t ∷ other) ∙ one.same t r other d });
-    whole = h.whole;
-    word = h.word;
-    sample = h.sample;
-  }
+  found = λ w x rest e. (let one = h.found w x rest (sym (into w) ∙ e) in record { front = one.front; parts = one.parts; by = one.by; same = λ other alike. into (one.front ++ other) ∙ one.same other alike });
+  fault = λ w left few e. (let one = h.fault w left few (sym (into w) ∙ e) in record { front = one.front; rest = one.rest; parts = one.parts; at = one.at; more = one.more; whole = one.whole; viable = one.viable; same = λ t r other d. into (one.front ++ t ∷ other) ∙ one.same t r other d });
+  whole = h.whole;
+  word = h.word;
+  sample = h.sample;
+}

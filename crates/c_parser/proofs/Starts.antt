@@ -1,9 +1,9 @@
 -- What a line begins with.
-use Rattle.std.proofs.Common.{◌≡◌, ℕ, zero, suc, ◌+◌, ◌≤◌, ◌<◌, Bool, true, false, not, ◌&&◌, ◌||◌, List, [], ◌∷◌, ◌++◌, length, refl, ap, sym, ◌∙◌, subst, Option, Some, None, option_map, ◌⊎◌, inl, inr, if◌then◌else◌, ◌==◌, arith, rules}
+use Rattle.std.proofs.Common.{◌≡◌, ℕ, Bool, true, false, not, ◌&&◌, ◌||◌, List, [], ◌∷◌, ◌++◌, refl, ap, sym, ◌∙◌, Option, Some, None, option_map, ◌⊎◌, inl, inr, if◌then◌else◌, ◌==◌, arith, rules}
 use Rattle.c_lexer.specs.declared.token.Token.{Token}
-use Rattle.c_parser.specs.Codes.{Table, code, one_of, kinds, meaning, of_kind, of_table}
-use Rattle.c_parser.specs.Spelling.{Spelling, Means, One, Sign, Sequence, Located, Is, Many, Grown, ◌or◌, line_at}
-use Rattle.c_parser.specs.Reading.{begins, then_begins, until}
+use Rattle.c_parser.specs.Codes.{Table, code, one_of, kinds, meaning, of_kind}
+use Rattle.c_parser.specs.Spelling.{Spelling, One, Sign, Sequence, Is, ◌or◌}
+use Rattle.c_parser.specs.Reading.{begins, then_begins}
 use Rattle.c_parser.proofs.Repeat.{Filled}
 use Rattle.c_parser.proofs.Alike.{false_is_not_true}
 
@@ -52,8 +52,9 @@ none_is_not_some a e = cc
 one_of_left : (ks ls : List ℕ) (k : ℕ) → one_of ks k ≡ true → one_of (ks ++ ls) k ≡ true
 one_of_left [] ls k e = absurd (false_is_not_true e)
 one_of_left (j ∷ ks) ls k e = elim (or_either (k == j) (one_of ks k) e) [
-      inl d ↦ ap (λ b. b || one_of (ks ++ ls) k) d
-    | inr d ↦ or_right (k == j) (one_of (ks ++ ls) k) (one_of_left ks ls k d) ]
+  | inl d ↦ ap (λ b. b || one_of (ks ++ ls) k) d
+  | inr d ↦ or_right (k == j) (one_of (ks ++ ls) k) (one_of_left ks ls k d)
+]
 
 one_of_right : (ks ls : List ℕ) (k : ℕ) → one_of ls k ≡ true → one_of (ks ++ ls) k ≡ true
 one_of_right [] ls k e = e
@@ -71,16 +72,18 @@ within_one [] ls k w e = absurd (false_is_not_true e)
 within_one (j ∷ ks) ls k w e =
     let both = and_both (one_of ls j) (within ks ls) w in
     elim (or_either (k == j) (one_of ks k) e) [
-      inl d ↦ ap (one_of ls) (eq_same k j d) ∙ both.0
-    | inr d ↦ within_one ks ls k both.1 d ]
+      | inl d ↦ ap (one_of ls) (eq_same k j d) ∙ both.0
+      | inr d ↦ within_one ks ls k both.1 d
+    ]
 
 pub apart_one : (ks ls : List ℕ) (k : ℕ) → apart ks ls ≡ true → one_of ks k ≡ true → one_of ls k ≡ false
 apart_one [] ls k w e = absurd (false_is_not_true e)
 apart_one (j ∷ ks) ls k w e =
     let both = and_both (not (one_of ls j)) (apart ks ls) w in
     elim (or_either (k == j) (one_of ks k) e) [
-      inl d ↦ ap (one_of ls) (eq_same k j d) ∙ not_true (one_of ls j) both.0
-    | inr d ↦ apart_one ks ls k both.1 d ]
+      | inl d ↦ ap (one_of ls) (eq_same k j d) ∙ not_true (one_of ls j) both.0
+      | inr d ↦ apart_one ks ls k both.1 d
+    ]
 
 module _ {A : Type 0} (ks : List ℕ) (S : Spelling A) (s : Starts ks S) where
   pub starts_filled : Filled S
@@ -121,9 +124,9 @@ meaning_says : {A : Type 0} (table : Table A) (k : ℕ) (a : A) → meaning tabl
 meaning_says [] k a e = absurd (none_is_not_some a e)
 meaning_says (r ∷ rs) k a e = entry_says (meaning rs k) (one_of (kinds rs) k) (meaning_says rs k a) (k == r.0) e
   where
-  entry_says : (o : Option _) (found : Bool) → (o ≡ Some a → found ≡ true) → (b : Bool) → (if b then Some r.1 else o) ≡ Some a → (b || found) ≡ true
-  entry_says o found later true e = refl
-  entry_says o found later false e = later e
+    entry_says : (o : Option _) (found : Bool) → (o ≡ Some a → found ≡ true) → (b : Bool) → (if b then Some r.1 else o) ≡ Some a → (b || found) ≡ true
+    entry_says o found later true e = refl
+    entry_says o found later false e = later e
 
 table_says : {A : Type 0} (table : Table A) (t : Token) (p : ℕ × A) (o : Option A) → meaning table (code t) ≡ o → option_map (λ a. (t.line, a)) o ≡ Some p → one_of (kinds table) (code t) ≡ true
 table_says table t p (Some a) e d = meaning_says table (code t) a e
@@ -181,5 +184,6 @@ pair_apart ks ls ms w rest p e = ap (λ v. then_begins ms (v ++ rest)) p.parts �
 -- where the first part may be empty
 pub starts_empty : {A B : Type 0} (ks : List ℕ) (S : Spelling A) (a : A) (T : A → Spelling B) → Starts ks S → ((b : A) → Starts ks (T b)) → Starts ks (Sequence (S or Is a) T)
 starts_empty ks S a T s t x w h = elim h.first [
-      inl one ↦ (let r = s h.of h.front one in record { first = r.first; rest = r.rest ++ h.back; parts = h.parts ∙ ap (λ v. v ++ h.back) r.parts; kind = r.kind })
-    | inr none ↦ (let r = t h.of x h.back h.second in record { first = r.first; rest = r.rest; parts = h.parts ∙ (ap (λ v. v ++ h.back) none.1 ∙ r.parts); kind = r.kind }) ]
+  | inl one ↦ (let r = s h.of h.front one in record { first = r.first; rest = r.rest ++ h.back; parts = h.parts ∙ ap (λ v. v ++ h.back) r.parts; kind = r.kind })
+  | inr none ↦ (let r = t h.of x h.back h.second in record { first = r.first; rest = r.rest; parts = h.parts ∙ (ap (λ v. v ++ h.back) none.1 ∙ r.parts); kind = r.kind })
+]

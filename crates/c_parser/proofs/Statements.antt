@@ -1,56 +1,37 @@
 -- The readers of statements find what is spelled: each `else` goes to the nearest `if` that can take it.
-use Rattle.std.proofs.Common.{◌≡◌, ℕ, zero, suc, ◌+◌, ◌≤◌, ◌<◌, Bool, true, false, List, [], ◌∷◌, ◌++◌, length, refl, ap, sym, ◌∙◌, subst, Option, Some, None, Result, Ok, Err, ◌⊎◌, inl, inr, if◌then◌else◌, length-append, arith}
-use Rattle.std.proofs.lemmas.List.{append-nil, append_assoc}
+use Rattle.std.proofs.Common.{◌≡◌, ℕ, zero, suc, ◌+◌, ◌≤◌, ◌<◌, Bool, true, false, List, [], ◌∷◌, ◌++◌, length, refl, ap, sym, ◌∙◌, subst, Option, Some, None, Result, Ok, Err, inl, inr, if◌then◌else◌, length-append, arith}
+use Rattle.std.proofs.lemmas.List.{append-nil}
 use Rattle.c_lexer.specs.declared.token.Token.{Token}
-use Rattle.c_lexer.specs.declared.token.TokenKind.TheVariants.{Keyword, Name, Number, Character, Text, Punct}
-use Rattle.c_tree.specs.declared.specifier.Specifier.{Specifier}
+use Rattle.c_lexer.specs.declared.token.TokenKind.TheVariants.{Keyword, Punct}
 use Rattle.c_tree.specs.declared.expression.Expr.{Expr}
 use Rattle.c_tree.specs.declared.expression.Declarator.{Declarator}
-use Rattle.c_tree.specs.declared.declaration.Declaration.{Declaration}
-use Rattle.c_tree.specs.declared.declaration.Item.{Item}
-use Rattle.c_tree.specs.declared.declaration.Initializer.{Initializer}
-use Rattle.c_tree.specs.declared.declaration.Initializer.TheVariants as i
 use Rattle.c_parser.specs.declared.start.Start.{Start}
 use Rattle.c_parser.specs.declared.start.Start.TheVariants as at
 use Rattle.c_parser.specs.declared.start.Naming.{Naming}
-use Rattle.c_parser.specs.declared.start.Naming.TheVariants as how
-use Rattle.c_parser.specs.Codes.{kinds, one_of, open_brace, close_brace, semicolon, equals, comma, specifier_starts, declarator_starts, binary_operators}
+use Rattle.c_parser.specs.Codes.{open_brace, close_brace, semicolon, specifier_starts}
 use Rattle.c_parser.specs.Nodes.{Bytes}
-use Rattle.c_parser.specs.StatementNodes.{item_node, declaration_node}
-use Rattle.c_parser.specs.Spelling.{Spelling, One, Is, Sequence, Further, Listed, Maybe, ◌or◌, push}
-use Rattle.c_parser.specs.Grammar.{IsSpecifiers, ExprAt, DeclaratorAt}
-use Rattle.c_parser.specs.Units.{AnyExpr, AnyDeclarator, IsInitializerLine, InitializerAt, IsInitializer, IsGiven, IsItem, IsDeclaration}
-use Rattle.c_parser.specs.Reading.{Reader, begins, and_then, one, pure, stop, choose, grown, listed, behind_comma, specifiers, expr_at, declarator_at}
-use Rattle.c_parser.specs.ReadingUnits.{initializer_list, initializer_line, initializer_at, given, item, further_items, declaration}
+use Rattle.c_parser.specs.Spelling.{Spelling, One, Is, Sequence, ◌or◌, push}
+use Rattle.c_parser.specs.Units.{AnyExpr, IsDeclaration}
+use Rattle.c_parser.specs.Reading.{Reader, begins, and_then, one, pure, stop, choose, expr_at, declarator_at}
 use Rattle.c_parser.proofs.Sound.{Reads, reads_is, reads_wider, reads_equal}
 use Rattle.c_parser.proofs.Repeat.{Filled}
-use Rattle.c_parser.proofs.Starts.{Starts, apart, within, starts_filled, starts_one, starts_sequence, starts_either, starts_wider, begins_with, within_self}
-use Rattle.c_parser.proofs.Short.{reads_seq, reads_after, reads_map, reads_if, reads_swap, reads_repeat, reads_one, of}
-use Rattle.c_parser.proofs.Words.{starts_specifiers, reads_specifiers, reads_listed, starts_comma}
-use Rattle.c_parser.proofs.FoundAt.{reads_stop, found_at, a_name, name_word, sample_expr}
-use Rattle.c_parser.proofs.ExprStarts.{expr_starts, starts_expr, starts_declarator}
-use Rattle.c_parser.proofs.Again.{Ahead, Off, On, Anything, Again, Clear, again_seq, again_is, again_token, again_after, again_behind, again_map, again_choose, again_if, again_maybe, again_swap, again_repeat, clear_starts, clear_is, clear_or, clear_grown, clear_sequence, again_narrower, again_ahead, again_fewer, off_within}
-use Rattle.c_parser.proofs.ExprAgain.{expr_on, level_on, declarator_on, again_specifiers, again_listed, clear_any, clear_one, off_of}
-use Rattle.c_parser.proofs.AgainAt.{again_at, nothing}
-
-
+use Rattle.c_parser.proofs.Starts.{Starts, within, starts_filled, starts_one, starts_sequence, starts_wider}
+use Rattle.c_parser.proofs.Short.{reads_seq, reads_after, reads_map, reads_if, reads_swap, reads_one, of}
+use Rattle.c_parser.proofs.FoundAt.{reads_stop}
+use Rattle.c_parser.proofs.ExprStarts.{expr_starts}
+use Rattle.c_parser.proofs.Again.{Off}
 use Rattle.c_tree.specs.declared.statement.Stmt.{Stmt}
-use Rattle.c_tree.specs.declared.statement.ForStart.{ForStart}
 use Rattle.c_tree.specs.declared.statement.ForStart.TheVariants as f
-use Rattle.c_tree.specs.declared.statement.Block.{Block}
-use Rattle.c_tree.specs.declared.statement.BlockItem.{BlockItem}
 use Rattle.c_tree.specs.declared.statement.BlockItem.TheVariants as b
 use Rattle.c_parser.specs.Codes.{open_paren, close_paren, break_word, continue_word, do_word, else_word, for_word, if_word, return_word, while_word}
 use Rattle.c_parser.specs.StatementNodes.{block_node, block_stmt, empty_stmt, expr_stmt, if_stmt, while_stmt, do_stmt, for_stmt, continue_stmt, break_stmt, return_stmt}
 use Rattle.c_parser.specs.Spelling.{In_parens, Never}
-use Rattle.c_parser.specs.Units.{IsBlockItem, IsBlock, IsBlockStmt, IsExprStmt, IsEmptyStmt, IsElse, IsIf, IsWhile, IsDo, IsOptional, IsForStart, IsFor, IsContinue, IsBreak, IsReturn, Closed, IsStmtLine, StmtAt}
-use Rattle.c_parser.specs.Reading.{in_parens, until, ◌>>=◌, ◌>>◌, ◌<$>◌}
+use Rattle.c_parser.specs.Units.{IsBlockItem, IsBlock, IsBlockStmt, IsExprStmt, IsElse, IsIf, IsWhile, IsDo, IsOptional, IsForStart, IsFor, IsContinue, IsBreak, IsReturn, Closed, IsStmtLine, StmtAt}
+use Rattle.c_parser.specs.Reading.{until, ◌>>=◌, ◌>>◌, ◌<$>◌}
 use Rattle.c_parser.specs.ReadingUnits.{optional, condition, for_start, block_item, block_items, block, expr_statement, if_statement, while_statement, do_statement, for_statement, return_statement, break_statement, continue_statement, stmt_line, statement_at}
-use Rattle.c_parser.proofs.Alike.{Alike, Heads, and_then_ok, ok_same, false_is_not_true}
-use Rattle.c_parser.proofs.Sound.{Found, Fault}
+use Rattle.c_parser.proofs.Alike.{Heads, and_then_ok, ok_same, false_is_not_true}
 use Rattle.c_parser.proofs.Repeat.{reads_grown}
-use Rattle.c_parser.proofs.Words.{reads_in_parens}
-use Rattle.c_parser.proofs.Declarations.{reads_fewer, any_starts, any_reads, declarator_any_reads, reads_declaration, starts_declaration}
+use Rattle.c_parser.proofs.Declarations.{reads_fewer, any_starts, any_reads, reads_declaration, starts_declaration}
 
 -- ---- readers that also tell whether an `else` could belong to what they read
 
@@ -106,15 +87,15 @@ module _ (expr : Start → Reader Expr) (declarator : Naming → Reader Declarat
 
     abbrev pub told_line : Reader (Stmt × Bool)
     told_line =
-      choose (begins (open_brace ∷ [])) (closed (block_stmt <$> block expr declarator depth plain))
-      (choose (begins (semicolon ∷ [])) (closed ((λ t. empty_stmt t.line) <$> one semicolon))
-      (choose (begins (if_word ∷ [])) told_if
-      (choose (begins (while_word ∷ [])) told_while
-      (choose (begins (do_word ∷ [])) (closed (do_statement expr declarator depth plain))
-      (choose (begins (for_word ∷ [])) told_for
-      (choose (begins (return_word ∷ [])) (closed (return_statement expr declarator depth plain))
-      (choose (begins (break_word ∷ [])) (closed (break_statement expr declarator depth plain))
-      (choose (begins (continue_word ∷ [])) (closed (continue_statement expr declarator depth plain)) (closed (expr_statement expr declarator depth plain))))))))))
+        choose (begins (open_brace ∷ [])) (closed (block_stmt <$> block expr declarator depth plain))
+        (choose (begins (semicolon ∷ [])) (closed ((λ t. empty_stmt t.line) <$> one semicolon))
+        (choose (begins (if_word ∷ [])) told_if
+        (choose (begins (while_word ∷ [])) told_while
+        (choose (begins (do_word ∷ [])) (closed (do_statement expr declarator depth plain))
+        (choose (begins (for_word ∷ [])) told_for
+        (choose (begins (return_word ∷ [])) (closed (return_statement expr declarator depth plain))
+        (choose (begins (break_word ∷ [])) (closed (break_statement expr declarator depth plain))
+        (choose (begins (continue_word ∷ [])) (closed (continue_statement expr declarator depth plain)) (closed (expr_statement expr declarator depth plain))))))))))
 
   unfoldable pub told_at : ℕ → Reader (Stmt × Bool)
   told_at zero = stop
@@ -279,8 +260,14 @@ abbrev a_semicolon : List Token
 a_semicolon = of (Punct 32) ∷ []
 
 sample_stmt : (src : Bytes) (S : Spelling (Stmt × Bool)) → IsStmtLine src S (empty_stmt 0, false) a_semicolon
-sample_stmt src S = inr (inl (record { of = empty_stmt 0; front = a_semicolon; back = []; parts = refl;
-    first = record { of = of (Punct 32); front = a_semicolon; back = []; parts = refl; first = (of (Punct 32), refl, refl); second = (refl, refl) }; second = (refl, refl) }))
+sample_stmt src S = inr (inl (record {
+  of = empty_stmt 0;
+  front = a_semicolon;
+  back = [];
+  parts = refl;
+  first = record { of = of (Punct 32); front = a_semicolon; back = []; parts = refl; first = (of (Punct 32), refl, refl); second = (refl, refl) };
+  second = (refl, refl);
+}))
 
 pub reads_told_at : (src : Bytes) (n d : ℕ) → d ≤ n → Reads d (StmtAt src (suc d)) (told_at (expr_at src n) (declarator_at src n) n d)
 unfolding StmtAt told_at
@@ -313,9 +300,9 @@ tells_closed R = tells_seq R (λ s. pure (s, false)) (λ s w p rest e. tells_pur
 tells_choose : (test : List Token → Bool) (R Q : Reader (Stmt × Bool)) → Tells R → Tells Q → Tells (choose test R Q)
 tells_choose test R Q r q w p rest e = chosen_tells (test w) e
   where
-  chosen_tells : (b : Bool) → (if b then R else Q) w ≡ Ok (p, rest) → Quiet p.1 rest
-  chosen_tells true d = r w p rest d
-  chosen_tells false d = q w p rest d
+    chosen_tells : (b : Bool) → (if b then R else Q) w ≡ Ok (p, rest) → Quiet p.1 rest
+    chosen_tells true d = r w p rest d
+    chosen_tells false d = q w p rest d
 
 module _ (expr : Start → Reader Expr) (declarator : Naming → Reader Declarator) (depth : ℕ) (stmt : Reader (Stmt × Bool)) (h : Tells stmt) where
   tells_last : (g : (Stmt × Bool) → Stmt) → Tells (λ w. and_then (stmt w) (λ q. pure (g q, q.1)))
@@ -395,16 +382,16 @@ same_stmt (Err k) f g h = refl
 same_choose : (test : List Token → Bool) (R Q : Reader Stmt) (R' Q' : Reader (Stmt × Bool)) (w : List Token) → R w ≡ untold (R' w) → Q w ≡ untold (Q' w) → choose test R Q w ≡ untold (choose test R' Q' w)
 same_choose test R Q R' Q' w r q = by_test (test w)
   where
-  by_test : (b : Bool) → (if b then R else Q) w ≡ untold ((if b then R' else Q') w)
-  by_test true = r
-  by_test false = q
+    by_test : (b : Bool) → (if b then R else Q) w ≡ untold ((if b then R' else Q') w)
+    by_test true = r
+    by_test false = q
 
 same_closed : (R : Reader Stmt) (w : List Token) → R w ≡ untold (closed R w)
 same_closed R w = by_result (R w)
   where
-  by_result : (r : Result (Stmt × List Token) ℕ) → r ≡ untold (and_then r (λ s. pure (s, false)))
-  by_result (Ok p) = refl
-  by_result (Err k) = refl
+    by_result : (r : Result (Stmt × List Token) ℕ) → r ≡ untold (and_then r (λ s. pure (s, false)))
+    by_result (Ok p) = refl
+    by_result (Err k) = refl
 
 module _ (expr : Start → Reader Expr) (declarator : Naming → Reader Declarator) (depth : ℕ) (stmt : Reader (Stmt × Bool)) (h : Tells stmt) where
   abbrev bare_stmt : Reader Stmt
@@ -426,25 +413,25 @@ module _ (expr : Start → Reader Expr) (declarator : Naming → Reader Declarat
 
   same_found : (t : Token) (x : Expr) (first : Stmt) (a : Result (Token × List Token) ℕ)
       → and_then (and_then a (λ _ v. and_then (bare_stmt v) (λ s. pure (Some s)))) (λ second. pure (if_stmt t.line x first second))
-        ≡ untold (and_then (and_then a (λ _ v. and_then (stmt v) (λ r. pure (other_branch expr declarator depth stmt r)))) (λ second. pure (if_stmt t.line x first second.0, second.1)))
+      ≡ untold (and_then (and_then a (λ _ v. and_then (stmt v) (λ r. pure (other_branch expr declarator depth stmt r)))) (λ second. pure (if_stmt t.line x first second.0, second.1)))
   same_found t x first (Err k) = refl
   same_found t x first (Ok p) = by_stmt (stmt p.1)
     where
-    by_stmt : (q : Result ((Stmt × Bool) × List Token) ℕ)
-        → and_then (and_then (untold q) (λ s. pure (Some s))) (λ second. pure (if_stmt t.line x first second))
+      by_stmt : (q : Result ((Stmt × Bool) × List Token) ℕ)
+          → and_then (and_then (untold q) (λ s. pure (Some s))) (λ second. pure (if_stmt t.line x first second))
           ≡ untold (and_then (and_then q (λ r. pure (other_branch expr declarator depth stmt r))) (λ second. pure (if_stmt t.line x first second.0, second.1)))
-    by_stmt (Ok r) = refl
-    by_stmt (Err k) = refl
+      by_stmt (Ok r) = refl
+      by_stmt (Err k) = refl
 
   same_test : (t : Token) (x : Expr) (first : Stmt) (v : List Token) (b : Bool)
       → and_then ((if b then plain_else else pure None) v) (λ second. pure (if_stmt t.line x first second))
-        ≡ untold (and_then ((if b then found_else expr declarator depth stmt else pure (None, true)) v) (λ second. pure (if_stmt t.line x first second.0, second.1)))
+      ≡ untold (and_then ((if b then found_else expr declarator depth stmt else pure (None, true)) v) (λ second. pure (if_stmt t.line x first second.0, second.1)))
   same_test t x first v true = same_found t x first (one else_word v)
   same_test t x first v false = refl
 
   same_else : (t : Token) (x : Expr) (first : Stmt) (o : Bool) (v : List Token) → Quiet o v
       → and_then (choose (begins (else_word ∷ [])) plain_else (pure None) v) (λ second. pure (if_stmt t.line x first second))
-        ≡ untold (and_then (told_else expr declarator depth stmt o v) (λ second. pure (if_stmt t.line x first second.0, second.1)))
+      ≡ untold (and_then (told_else expr declarator depth stmt o v) (λ second. pure (if_stmt t.line x first second.0, second.1)))
   same_else t x first true v q = ap (λ b. and_then ((if b then plain_else else pure None) v) (λ second. pure (if_stmt t.line x first second))) (q refl)
   same_else t x first false v q = same_test t x first v (begins (else_word ∷ []) v)
 

@@ -1,41 +1,23 @@
 -- The readers of statements read what is spelled, where no `else` follows that would belong to it.
-use Rattle.std.proofs.Common.{◌≡◌, ℕ, zero, suc, ◌+◌, ◌≤◌, ◌<◌, Bool, true, false, List, [], ◌∷◌, ◌++◌, length, refl, ap, sym, ◌∙◌, subst, Option, Some, None, Result, Ok, Err, ◌⊎◌, inl, inr, not, ◌||◌, ◌==◌, if◌then◌else◌, length-append, arith}
-use Rattle.std.proofs.lemmas.List.{append-nil, append_assoc}
+use Rattle.std.proofs.Common.{◌≡◌, ℕ, zero, suc, ◌≤◌, Bool, true, false, List, [], ◌∷◌, ◌++◌, length, refl, ap, sym, ◌∙◌, Option, Some, None, Ok, inl, inr, not, ◌||◌, ◌==◌, arith}
 use Rattle.c_lexer.specs.declared.token.Token.{Token}
-use Rattle.c_lexer.specs.declared.token.TokenKind.TheVariants.{Keyword, Name, Number, Character, Text, Punct}
-use Rattle.c_tree.specs.declared.specifier.Specifier.{Specifier}
 use Rattle.c_tree.specs.declared.expression.Expr.{Expr}
 use Rattle.c_tree.specs.declared.expression.Declarator.{Declarator}
-use Rattle.c_tree.specs.declared.declaration.Declaration.{Declaration}
-use Rattle.c_tree.specs.declared.declaration.Item.{Item}
-use Rattle.c_tree.specs.declared.declaration.Initializer.{Initializer}
-use Rattle.c_tree.specs.declared.declaration.Initializer.TheVariants as i
 use Rattle.c_parser.specs.declared.start.Start.{Start}
 use Rattle.c_parser.specs.declared.start.Start.TheVariants as at
 use Rattle.c_parser.specs.declared.start.Naming.{Naming}
-use Rattle.c_parser.specs.declared.start.Naming.TheVariants as how
-use Rattle.c_parser.specs.Codes.{kinds, code, one_of, of_kind, open_brace, close_brace, semicolon, equals, comma, specifier_starts, declarator_starts, binary_operators}
+use Rattle.c_parser.specs.Codes.{code, of_kind, open_brace, close_brace, semicolon, specifier_starts, binary_operators}
 use Rattle.c_parser.specs.Nodes.{Bytes}
-use Rattle.c_parser.specs.StatementNodes.{item_node, declaration_node}
-use Rattle.c_parser.specs.Spelling.{Spelling, One, Is, Sequence, Further, Listed, Maybe, ◌or◌, push}
-use Rattle.c_parser.specs.Grammar.{IsSpecifiers, ExprAt, DeclaratorAt}
-use Rattle.c_parser.specs.Units.{AnyExpr, AnyDeclarator, IsInitializerLine, InitializerAt, IsInitializer, IsGiven, IsItem, IsDeclaration}
-use Rattle.c_parser.specs.Reading.{Reader, begins, and_then, one, pure, stop, choose, grown, listed, behind_comma, specifiers, expr_at, declarator_at}
-use Rattle.c_parser.specs.ReadingUnits.{initializer_list, initializer_line, initializer_at, given, item, further_items, declaration}
-use Rattle.c_parser.proofs.Sound.{Reads, reads_is, reads_wider, reads_equal}
+use Rattle.c_parser.specs.Spelling.{Spelling, One, Is, Sequence, Further, ◌or◌, push}
+use Rattle.c_parser.specs.Units.{AnyExpr, IsDeclaration}
+use Rattle.c_parser.specs.Reading.{Reader, begins, and_then, one, pure, choose, expr_at, declarator_at}
 use Rattle.c_parser.proofs.Repeat.{Filled}
-use Rattle.c_parser.proofs.Starts.{Starts, apart, within, starts_filled, starts_one, starts_sequence, starts_either, starts_wider, begins_with, begins_apart, starts_empty, apart_one, within_left, within_right, within_self}
-use Rattle.c_parser.proofs.Short.{reads_seq, reads_after, reads_map, reads_if, reads_swap, reads_repeat, reads_one, of}
-use Rattle.c_parser.proofs.Words.{starts_specifiers, reads_specifiers, reads_listed, starts_comma}
-use Rattle.c_parser.proofs.FoundAt.{reads_stop, found_at, a_name, name_word, sample_expr}
-use Rattle.c_parser.proofs.ExprStarts.{expr_starts, starts_expr, starts_declarator}
-use Rattle.c_parser.proofs.Again.{Ahead, Off, On, Anything, Again, Clear, again_seq, again_is, again_token, again_after, again_behind, again_map, again_choose, again_if, again_maybe, again_swap, again_repeat, clear_starts, clear_is, clear_or, clear_grown, clear_sequence, again_narrower, again_ahead, again_fewer, off_within}
-use Rattle.c_parser.proofs.ExprAgain.{expr_on, level_on, declarator_on, again_specifiers, again_listed, clear_any, clear_one, off_of}
-use Rattle.c_parser.proofs.AgainAt.{again_at, nothing}
-
-
+use Rattle.c_parser.proofs.Starts.{Starts, apart, starts_filled, starts_one, starts_sequence, starts_either, starts_wider, begins_with, begins_apart, starts_empty, apart_one, within_left, within_right, within_self}
+use Rattle.c_parser.proofs.ExprStarts.{expr_starts}
+use Rattle.c_parser.proofs.Again.{Ahead, Off, On, Anything, Again, Clear, again_seq, again_is, again_token, again_after, again_behind, again_map, again_choose, again_if, clear_is, clear_sequence, again_narrower, again_ahead, again_fewer}
+use Rattle.c_parser.proofs.ExprAgain.{expr_on, level_on, clear_any, clear_one, off_of}
+use Rattle.c_parser.proofs.AgainAt.{nothing}
 use Rattle.c_tree.specs.declared.statement.Stmt.{Stmt}
-use Rattle.c_tree.specs.declared.statement.ForStart.{ForStart}
 use Rattle.c_tree.specs.declared.statement.ForStart.TheVariants as f
 use Rattle.c_tree.specs.declared.statement.Block.{Block}
 use Rattle.c_tree.specs.declared.statement.BlockItem.{BlockItem}
@@ -43,22 +25,18 @@ use Rattle.c_tree.specs.declared.statement.BlockItem.TheVariants as b
 use Rattle.c_parser.specs.Codes.{open_paren, close_paren, break_word, continue_word, do_word, else_word, for_word, if_word, return_word, while_word}
 use Rattle.c_parser.specs.StatementNodes.{block_node, block_stmt, empty_stmt, expr_stmt, if_stmt, while_stmt, do_stmt, for_stmt, continue_stmt, break_stmt, return_stmt}
 use Rattle.c_parser.specs.Spelling.{In_parens, Never, Many}
-use Rattle.c_parser.specs.Units.{IsBlockItem, IsBlock, IsBlockStmt, IsExprStmt, IsEmptyStmt, IsElse, IsIf, IsWhile, IsDo, IsOptional, IsForStart, IsFor, IsContinue, IsBreak, IsReturn, Closed, IsStmtLine, StmtAt}
-use Rattle.c_parser.specs.Reading.{in_parens, until, ◌>>=◌, ◌>>◌, ◌<$>◌}
+use Rattle.c_parser.specs.Units.{IsBlockItem, IsBlock, IsBlockStmt, IsExprStmt, IsEmptyStmt, IsElse, IsWhile, IsDo, IsOptional, IsForStart, IsFor, IsContinue, IsBreak, IsReturn, Closed, IsStmtLine, StmtAt}
+use Rattle.c_parser.specs.Reading.{until, ◌>>◌, ◌<$>◌}
 use Rattle.c_parser.specs.ReadingUnits.{optional, condition, for_start, block_item, block_items, block, expr_statement, if_statement, while_statement, do_statement, for_statement, return_statement, break_statement, continue_statement, stmt_line, statement_at}
-use Rattle.c_parser.proofs.Alike.{Alike, Heads, and_then_ok, ok_same, false_is_not_true}
-use Rattle.c_parser.proofs.Sound.{Found, Fault}
-use Rattle.c_parser.proofs.Repeat.{reads_grown}
-use Rattle.c_parser.proofs.Words.{reads_in_parens}
-use Rattle.c_parser.proofs.Declarations.{reads_fewer, any_starts, any_reads, declarator_any_reads, reads_declaration, starts_declaration}
-
+use Rattle.c_parser.proofs.Alike.{false_is_not_true}
+use Rattle.c_parser.proofs.Declarations.{any_starts, starts_declaration}
 use Rattle.c_parser.proofs.Repeat.{Filled}
 use Rattle.c_parser.proofs.Unary.{same_word}
 use Rattle.c_parser.proofs.Again.{again_grown}
 use Rattle.c_parser.proofs.Past.{begins_other}
 use Rattle.c_parser.proofs.ExprAgain.{clear_on, again_empty, again_parens_here}
 use Rattle.c_parser.proofs.Declarations.{any_again, again_declaration}
-use Rattle.c_parser.proofs.Statements.{stmt_starts, starts_block, starts_stmt_at}
+use Rattle.c_parser.proofs.Statements.{stmt_starts, starts_stmt_at}
 
 -- a statement that ends with an `if` to which an `else` could belong only where this is allowed
 abbrev pub Open : Bool → Spelling (Stmt × Bool) → Spelling Stmt
@@ -71,9 +49,9 @@ Tail b rest = b ≡ true → Off (else_word ∷ []) rest
 again_union : {A : Type 0} {n : ℕ} {S T : Spelling A} {R : Reader A} {P : Ahead} → Again n S R P → Again n T R P → Again n (S or T) R P
 again_union {n = n} {S = S} {T = T} {R = R} {P = P} s t = record { read = λ x f rest h few p. read_either x f rest h few p }
   where
-  read_either : (x : _) (f rest : List Token) → (S or T) x f → length f ≤ n → P rest → R (f ++ rest) ≡ Ok (x, rest)
-  read_either x f rest (inl h) few p = s.read x f rest h few p
-  read_either x f rest (inr h) few p = t.read x f rest h few p
+    read_either : (x : _) (f rest : List Token) → (S or T) x f → length f ≤ n → P rest → R (f ++ rest) ≡ Ok (x, rest)
+    read_either x f rest (inl h) few p = s.read x f rest h few p
+    read_either x f rest (inr h) few p = t.read x f rest h few p
 
 again_never : {A : Type 0} {n : ℕ} {R : Reader A} {P : Ahead} → Again n Never R P
 again_never = record { read = λ x f rest h few p. absurd h }
@@ -277,9 +255,9 @@ module _ (src : Bytes) (n d : ℕ) (le : suc d ≤ n) (S : Spelling (Stmt × Boo
 
   in_front_of : (b : Bool) (k : ℕ) (ks : List ℕ) (T U : Spelling Stmt) (R Q : Reader Stmt) → Starts (k ∷ []) T → Again (suc d) T R (Tail b) → Behind b ks U Q → apart ks (k ∷ []) ≡ true → Behind b (k ∷ ks) (T or U) (choose (begins (k ∷ [])) R Q)
   in_front_of b k ks T U R Q s r u e = record {
-      begin = starts_either (k ∷ ks) T U (starts_wider (k ∷ []) T s (k ∷ ks) (within_left (k ∷ []) ks)) (starts_wider ks U u.begin (k ∷ ks) (within_right (k ∷ []) ks));
-      again = again_if (k ∷ []) ks (k ∷ []) s (within_self (k ∷ [])) u.begin e r u.again;
-    }
+    begin = starts_either (k ∷ ks) T U (starts_wider (k ∷ []) T s (k ∷ ks) (within_left (k ∷ []) ks)) (starts_wider ks U u.begin (k ∷ ks) (within_right (k ∷ []) ks));
+    again = again_if (k ∷ []) ks (k ∷ []) s (within_self (k ∷ [])) u.begin e r u.again;
+  }
 
   again_line_of : (b : Bool) → Again (suc d) (Line_of b) (stmt_line E D n stmt) (Tail b)
   unfolding stmt_line
@@ -313,32 +291,73 @@ module _ (src : Bytes) (n d : ℕ) (le : suc d ≤ n) (S : Spelling (Stmt × Boo
   if_branches : (b : Bool) (t : Token) (x : Expr) (y : Stmt) (o : Bool) (v : List Token) → (o ≡ true → b ≡ true)
       → Branches t x (y, o) v → (With_else b t x or Without b t x) y v
   if_branches b t x y o v q k = elim k.second.first [
-      inl other ↦
+    | inl other ↦
         (let told = second_told k.of.1 k.second.of k.second.front other in
         let value : (y, o) ≡ (if_stmt t.line x k.of.0 k.second.of.0, k.second.of.1) = k.second.second.0 in
         let branch = told.1.second in
         let same : k.second.of ≡ (Some branch.of.0, branch.of.1) = branch.second.0 in
         let flag : o ≡ branch.of.1 = ap (λ p. p.1) value ∙ ap (λ p. p.1) same in
-        inl (record { of = k.of.0; front = k.front; back = k.back; parts = k.parts;
+        inl (record {
+          of = k.of.0;
+          front = k.front;
+          back = k.back;
+          parts = k.parts;
           first = (k.of.1, k.first, λ e. absurd (false_is_not_true (sym told.0 ∙ e)));
-          second = record { of = Some branch.of.0; front = k.second.front; back = k.second.back; parts = k.second.parts;
-            first = record { of = told.1.of; front = told.1.front; back = told.1.back; parts = told.1.parts; first = told.1.first;
-              second = record { of = branch.of.0; front = branch.front; back = branch.back; parts = branch.parts; first = (branch.of.1, branch.first, λ e. q (flag ∙ e)); second = (refl, branch.second.1) } };
-            second = (ap (λ p. p.0) value ∙ ap (λ p. if_stmt t.line x k.of.0 p.0) same, k.second.second.1) } }))
+          second = record {
+            of = Some branch.of.0;
+            front = k.second.front;
+            back = k.second.back;
+            parts = k.second.parts;
+            first = record {
+              of = told.1.of;
+              front = told.1.front;
+              back = told.1.back;
+              parts = told.1.parts;
+              first = told.1.first;
+              second = record { of = branch.of.0; front = branch.front; back = branch.back; parts = branch.parts; first = (branch.of.1, branch.first, λ e. q (flag ∙ e)); second = (refl, branch.second.1) };
+            };
+            second = (ap (λ p. p.0) value ∙ ap (λ p. if_stmt t.line x k.of.0 p.0) same, k.second.second.1);
+          };
+        }))
     | inr none ↦
         (let value : (y, o) ≡ (if_stmt t.line x k.of.0 k.second.of.0, k.second.of.1) = k.second.second.0 in
         let flag : o ≡ true = ap (λ p. p.1) value ∙ ap (λ p. p.1) none.0 in
-        inr (without_of b t x y v (q flag) (record { of = k.of.0; front = k.front; back = k.back; parts = k.parts; first = (k.of.1, k.first, λ e. refl);
-          second = record { of = None; front = k.second.front; back = k.second.back; parts = k.second.parts; first = (refl, none.1);
-            second = (ap (λ p. p.0) value ∙ ap (λ p. if_stmt t.line x k.of.0 p.0) none.0, k.second.second.1) } }))) ]
+        inr (without_of b t x y v (q flag) (record {
+          of = k.of.0;
+          front = k.front;
+          back = k.back;
+          parts = k.parts;
+          first = (k.of.1, k.first, λ e. refl);
+          second = record {
+            of = None;
+            front = k.second.front;
+            back = k.second.back;
+            parts = k.second.parts;
+            first = (refl, none.1);
+            second = (ap (λ p. p.0) value ∙ ap (λ p. if_stmt t.line x k.of.0 p.0) none.0, k.second.second.1);
+          };
+        })))
+  ]
 
   while_word_of : (b : Bool) (y : Stmt) (o : Bool) (w : List Token) → (o ≡ true → b ≡ true) → IsWhile src S (y, o) w → While_of b y w
   while_word_of b y o w q k =
       let body = k.second.second in
       let value : (y, o) ≡ (while_stmt k.of.line k.second.of body.of.0, body.of.1) = body.second.0 in
-      record { of = k.of; front = k.front; back = k.back; parts = k.parts; first = k.first;
-        second = record { of = k.second.of; front = k.second.front; back = k.second.back; parts = k.second.parts; first = k.second.first;
-          second = record { of = body.of.0; front = body.front; back = body.back; parts = body.parts; first = (body.of.1, body.first, λ e. q (ap (λ p. p.1) value ∙ e)); second = (ap (λ p. p.0) value, body.second.1) } } }
+      record {
+        of = k.of;
+        front = k.front;
+        back = k.back;
+        parts = k.parts;
+        first = k.first;
+        second = record {
+          of = k.second.of;
+          front = k.second.front;
+          back = k.second.back;
+          parts = k.second.parts;
+          first = k.second.first;
+          second = record { of = body.of.0; front = body.front; back = body.back; parts = body.parts; first = (body.of.1, body.first, λ e. q (ap (λ p. p.1) value ∙ e)); second = (ap (λ p. p.0) value, body.second.1) };
+        };
+      }
 
   for_word_of : (b : Bool) (y : Stmt) (o : Bool) (w : List Token) → (o ≡ true → b ≡ true) → IsFor src S (y, o) w → For_of b y w
   for_word_of b y o w q k =
@@ -350,14 +369,56 @@ module _ (src : Bytes) (n d : ℕ) (le : suc d ≤ n) (S : Spelling (Stmt × Boo
       let k6 = k5.second in
       let body = k6.second in
       let value : (y, o) ≡ (for_stmt k.of.line k2.of k3.of k5.of body.of.0, body.of.1) = body.second.0 in
-      record { of = k.of; front = k.front; back = k.back; parts = k.parts; first = k.first;
-        second = record { of = k1.of; front = k1.front; back = k1.back; parts = k1.parts; first = k1.first;
-          second = record { of = k2.of; front = k2.front; back = k2.back; parts = k2.parts; first = k2.first;
-            second = record { of = k3.of; front = k3.front; back = k3.back; parts = k3.parts; first = k3.first;
-              second = record { of = k4.of; front = k4.front; back = k4.back; parts = k4.parts; first = k4.first;
-                second = record { of = k5.of; front = k5.front; back = k5.back; parts = k5.parts; first = k5.first;
-                  second = record { of = k6.of; front = k6.front; back = k6.back; parts = k6.parts; first = k6.first;
-                    second = record { of = body.of.0; front = body.front; back = body.back; parts = body.parts; first = (body.of.1, body.first, λ e. q (ap (λ p. p.1) value ∙ e)); second = (ap (λ p. p.0) value, body.second.1) } } } } } } } }
+      record {
+        of = k.of;
+        front = k.front;
+        back = k.back;
+        parts = k.parts;
+        first = k.first;
+        second = record {
+          of = k1.of;
+          front = k1.front;
+          back = k1.back;
+          parts = k1.parts;
+          first = k1.first;
+          second = record {
+            of = k2.of;
+            front = k2.front;
+            back = k2.back;
+            parts = k2.parts;
+            first = k2.first;
+            second = record {
+              of = k3.of;
+              front = k3.front;
+              back = k3.back;
+              parts = k3.parts;
+              first = k3.first;
+              second = record {
+                of = k4.of;
+                front = k4.front;
+                back = k4.back;
+                parts = k4.parts;
+                first = k4.first;
+                second = record {
+                  of = k5.of;
+                  front = k5.front;
+                  back = k5.back;
+                  parts = k5.parts;
+                  first = k5.first;
+                  second = record {
+                    of = k6.of;
+                    front = k6.front;
+                    back = k6.back;
+                    parts = k6.parts;
+                    first = k6.first;
+                    second = record { of = body.of.0; front = body.front; back = body.back; parts = body.parts; first = (body.of.1, body.first, λ e. q (ap (λ p. p.1) value ∙ e)); second = (ap (λ p. p.0) value, body.second.1) };
+                  };
+                };
+              };
+            };
+          };
+        };
+      }
 
   part_of : (x : BlockItem) (w : List Token) → IsBlockItem src S x w → Part x w
   part_of x w (inl k) = inl k
@@ -368,18 +429,36 @@ module _ (src : Bytes) (n d : ℕ) (le : suc d ≤ n) (S : Spelling (Stmt × Boo
   many_parts (x ∷ xs) w k = (k.0, k.1, k.2, part_of x k.0 k.3, many_parts xs k.1 k.4)
 
   pub block_word_of : (x : Block) (w : List Token) → IsBlock src S x w → Block_of x w
-  block_word_of x w k = record { of = k.of; front = k.front; back = k.back; parts = k.parts; first = k.first;
-      second = record { of = k.second.of; front = k.second.front; back = k.second.back; parts = k.second.parts; first = (k.second.first.0, many_parts k.second.first.0 k.second.front k.second.first.1, k.second.first.2); second = k.second.second } }
+  block_word_of x w k = record {
+    of = k.of;
+    front = k.front;
+    back = k.back;
+    parts = k.parts;
+    first = k.first;
+    second = record { of = k.second.of; front = k.second.front; back = k.second.back; parts = k.second.parts; first = (k.second.first.0, many_parts k.second.first.0 k.second.front k.second.first.1, k.second.first.2); second = k.second.second };
+  }
 
   do_word_of : (x : Stmt) (w : List Token) → IsDo src S x w → Do_of x w
-  do_word_of x w k = record { of = k.of; front = k.front; back = k.back; parts = k.parts; first = k.first;
-      second = record { of = k.second.of.0; front = k.second.front; back = k.second.back; parts = k.second.parts; first = (k.second.of.1, k.second.first, λ e. refl); second = k.second.second } }
+  do_word_of x w k = record {
+    of = k.of;
+    front = k.front;
+    back = k.back;
+    parts = k.parts;
+    first = k.first;
+    second = record { of = k.second.of.0; front = k.second.front; back = k.second.back; parts = k.second.parts; first = (k.second.of.1, k.second.first, λ e. refl); second = k.second.second };
+  }
 
   line_of_word : (b : Bool) (x : Stmt) (o : Bool) (w : List Token) → (o ≡ true → b ≡ true) → IsStmtLine src S (x, o) w → Line_of b x w
   line_of_word b x o w q (inl k) = let c = closed_word src S (IsBlockStmt src S) x o w k in inl (record { of = c.of; front = c.front; back = c.back; parts = c.parts; first = block_word_of c.of c.front c.first; second = c.second })
   line_of_word b x o w q (inr (inl k)) = inr (inl (closed_word src S (IsEmptyStmt src S) x o w k))
-  line_of_word b x o w q (inr (inr (inl k))) = inr (inr (inl (record { of = k.of; front = k.front; back = k.back; parts = k.parts; first = k.first;
-      second = record { of = k.second.of; front = k.second.front; back = k.second.back; parts = k.second.parts; first = k.second.first; second = if_branches b k.of k.second.of x o k.second.back q k.second.second } })))
+  line_of_word b x o w q (inr (inr (inl k))) = inr (inr (inl (record {
+    of = k.of;
+    front = k.front;
+    back = k.back;
+    parts = k.parts;
+    first = k.first;
+    second = record { of = k.second.of; front = k.second.front; back = k.second.back; parts = k.second.parts; first = k.second.first; second = if_branches b k.of k.second.of x o k.second.back q k.second.second };
+  })))
   line_of_word b x o w q (inr (inr (inr (inl k)))) = inr (inr (inr (inl (while_word_of b x o w q k))))
   line_of_word b x o w q (inr (inr (inr (inr (inl k))))) = inr (inr (inr (inr (inl (do_word_of x w (closed_word src S (IsDo src S) x o w k))))))
   line_of_word b x o w q (inr (inr (inr (inr (inr (inl k)))))) = inr (inr (inr (inr (inr (inl (for_word_of b x o w q k))))))

@@ -1,6 +1,6 @@
 -- Which conditional expressions are unary expressions: those whose node is that of one.
-use Rattle.std.proofs.Common.{◌≡◌, ℕ, zero, suc, ◌+◌, Bool, true, false, List, [], ◌∷◌, ◌++◌, refl, ap, sym, ◌∙◌, Option, Some, None, option_map, fold, subst, ◌⊎◌, inl, inr}
-use Rattle.std.proofs.lemmas.List.{append-nil, append_assoc}
+use Rattle.std.proofs.Common.{◌≡◌, ℕ, zero, suc, Bool, true, false, List, [], ◌∷◌, ◌++◌, refl, ap, sym, ◌∙◌, Some, option_map, fold, subst, inl, inr}
+use Rattle.std.proofs.lemmas.List.{append-nil}
 use Rattle.c_lexer.specs.declared.token.Token.{Token}
 use Rattle.c_lexer.specs.declared.token.TokenKind.{TokenKind}
 use Rattle.c_lexer.specs.declared.token.TokenKind.TheVariants.{Keyword, Name, Number, Character, Text, Punct}
@@ -8,18 +8,12 @@ use Rattle.srmt_base.specs.declared.ty.Ty.{Ty}
 use Rattle.c_tree.specs.declared.operator.PrefixOp.{PrefixOp}
 use Rattle.c_tree.specs.declared.expression.Expr.{Expr}
 use Rattle.c_tree.specs.declared.expression.Declarator.{Declarator}
-use Rattle.c_tree.specs.declared.expression.Direct.{Direct}
-use Rattle.c_tree.specs.declared.expression.Suffix.{Suffix}
-use Rattle.c_tree.specs.declared.specifier.Pointer.{Pointer}
-use Rattle.c_tree.specs.declared.expression.ExprNode.{ExprNode}
 use Rattle.c_parser.specs.declared.start.Start.{Start}
-use Rattle.c_parser.specs.declared.start.Start.TheVariants as at
 use Rattle.c_parser.specs.declared.start.Naming.{Naming}
-use Rattle.c_parser.specs.declared.start.Naming.TheVariants as n
-use Rattle.c_parser.specs.Codes.{Table, code, code_of, one_of, kinds, name, number, character, text, open_bracket, open_paren, star, sizeof_word, step_operators, unary_operators, postfix_operators, specifier_starts, postfix_starts, suffix_starts, declarator_starts, binary_operators, levels}
-use Rattle.c_parser.specs.Spelling.{Spelling, Means, One, Sign, Is, Sequence, Many, Grown, Further, Some_of, Listed, Maybe, In_parens, Located, ◌or◌, line_at}
+use Rattle.c_parser.specs.Codes.{binary_operators, levels}
+use Rattle.c_parser.specs.Spelling.{Spelling, Is, Many, ◌or◌}
 use Rattle.c_parser.specs.Nodes.{Bytes, constant_node, at_line}
-use Rattle.c_parser.specs.Grammar.{IsSpecifiers, IsPointer, IsPointers, IsArray, IsParameter, IsFunction, IsSuffix, IsNamed, IsNested, IsBare, IsCore, IsPointerAlone, IsDeclaratorLine, IsTypeName, IsName, IsConstant, IsTexts, IsParenthesized, IsPrimary, IsIndex, IsCall, IsStep, IsPostfix, IsSizeof, IsPrefix, IsUnary, IsTyped, IsCast, IsOperation, IsLevel, IsConditional, IsAssigned, IsAssignment, IsExpression, IsExprLine, ExprAt, DeclaratorAt}
+use Rattle.c_parser.specs.Grammar.{IsPrimary, IsIndex, IsCall, IsStep, IsUnary, IsOperation, IsLevel, IsConditional, IsAssigned}
 use Rattle.c_tree.specs.declared.expression.ExprNode.{out-ExprNode}
 use Rattle.c_tree.specs.declared.expression.ExprNode.TheVariants as e
 use Rattle.c_tree.specs.declared.expression.TypeName.{TypeName}
@@ -27,7 +21,7 @@ use Rattle.c_tree.specs.declared.operator.PostfixOp.{PostfixOp}
 use Rattle.c_tree.specs.declared.operator.BinaryOp.{BinaryOp}
 use denote.Hole
 use Rattle.c_parser.specs.Nodes.{is_unary, name_node, text_node, parenthesized_node, index_node, call_node, postfix_node, prefix_node, sizeof_expr_node, sizeof_type_node, binary_node, conditional_node, cast_node}
-use Rattle.c_parser.specs.Grammar.{IsBranches, operated}
+use Rattle.c_parser.specs.Grammar.{operated}
 use Rattle.c_parser.proofs.Alike.{false_is_not_true, some_same}
 
 abbrev Unary : Expr → Type 0
@@ -135,8 +129,9 @@ module _ (src : Bytes) (SE : Start → Spelling Expr) (SD : Naming → Spelling 
 
   pub unary_is_unary : (x : Expr) (w : List Token) → IsUnary src SE SD x w → Unary x
   unary_is_unary x w (inl h) = elim h.second [
-      inl s ↦ ap is_unary s.second.0 ∙ sizeof_type_unary h.of.line s.of
-    | inr s ↦ ap is_unary s.second.0 ∙ sizeof_expr_unary h.of.line s.of ]
+    | inl s ↦ ap is_unary s.second.0 ∙ sizeof_type_unary h.of.line s.of
+    | inr s ↦ ap is_unary s.second.0 ∙ sizeof_expr_unary h.of.line s.of
+  ]
   unary_is_unary x w (inr (inl h)) = ap is_unary h.second.second.0 ∙ prefix_unary h.of.0 h.of.1 h.second.of
   unary_is_unary x w (inr (inr (inl h))) = ap is_unary h.second.second.0 ∙ prefix_unary h.of.0 h.of.1 h.second.of
   unary_is_unary x w (inr (inr (inr h))) = ap is_unary h.second.2 ∙ parts_unary h.second.0 h.back h.of h.second.1 (primary_unary h.of h.front h.first)
@@ -155,14 +150,15 @@ module _ (src : Bytes) (SE : Start → Spelling Expr) (SD : Naming → Spelling 
   unary_of_level zero x w (inr h) u = h
   unary_of_level (suc level) x w h u = grown_level h.second.0 h.second.1 h.second.2 (λ v d. unary_of_level level h.of h.front h.first (sym (ap is_unary d) ∙ u))
     where
-    grown_level : (ps : List ((ℕ × BinaryOp) × Expr)) → Many (IsOperation src SE SD (binary_operators level) (IsLevel src SE SD level)) ps h.back → x ≡ fold (operated src SE SD) h.of ps → ((v : ℕ) → x ≡ h.of → IsUnary src SE SD h.of h.front) → IsUnary src SE SD x w
-    grown_level [] m e before = same_word (IsUnary src SE SD) x h.of w h.front h.back e h.parts m (before 0 e)
-    grown_level (p ∷ ps) m e before = absurd (not_both x u (ap is_unary e ∙ operated_other (binary_node h.of p.0.0 p.0.1 p.1) ps (binary_other h.of p.0.0 p.0.1 p.1)))
+      grown_level : (ps : List ((ℕ × BinaryOp) × Expr)) → Many (IsOperation src SE SD (binary_operators level) (IsLevel src SE SD level)) ps h.back → x ≡ fold (operated src SE SD) h.of ps → ((v : ℕ) → x ≡ h.of → IsUnary src SE SD h.of h.front) → IsUnary src SE SD x w
+      grown_level [] m e before = same_word (IsUnary src SE SD) x h.of w h.front h.back e h.parts m (before 0 e)
+      grown_level (p ∷ ps) m e before = absurd (not_both x u (ap is_unary e ∙ operated_other (binary_node h.of p.0.0 p.0.1 p.1) ps (binary_other h.of p.0.0 p.0.1 p.1)))
 
   pub unary_of_conditional : (x : Expr) (w : List Token) → IsConditional src SE SD x w → Unary x → IsUnary src SE SD x w
   unary_of_conditional x w h u = elim h.second [
-      inl b ↦ absurd (not_both x u (ap is_unary b.second.0 ∙ (ap (λ f. is_unary (f h.of)) b.first.second.second.second.second.0 ∙ conditional_other h.of b.first.of.line b.first.second.of b.first.second.second.second.of)))
-    | inr i ↦ same_word (IsUnary src SE SD) x h.of w h.front h.back i.0 h.parts i.1 (unary_of_level levels h.of h.front h.first (sym (ap is_unary i.0) ∙ u)) ]
+    | inl b ↦ absurd (not_both x u (ap is_unary b.second.0 ∙ (ap (λ f. is_unary (f h.of)) b.first.second.second.second.second.0 ∙ conditional_other h.of b.first.of.line b.first.second.of b.first.second.second.second.of)))
+    | inr i ↦ same_word (IsUnary src SE SD) x h.of w h.front h.back i.0 h.parts i.1 (unary_of_level levels h.of h.front h.first (sym (ap is_unary i.0) ∙ u))
+  ]
 
   -- what stands behind a conditional expression, where it may be a left side
   abbrev pub behind_left : Bool → Expr → Spelling Expr

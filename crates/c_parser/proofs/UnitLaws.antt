@@ -1,73 +1,40 @@
 -- The reader of units finds what is spelled and reads it again.
-use Rattle.std.proofs.Common.{◌≡◌, ℕ, zero, suc, ◌+◌, ◌≤◌, ◌<◌, Bool, true, false, List, [], ◌∷◌, ◌++◌, length, refl, ap, sym, ◌∙◌, subst, Option, Some, None, Result, Ok, Err, ◌⊎◌, inl, inr, not, ◌||◌, ◌==◌, if◌then◌else◌, length-append, arith}
+use Rattle.std.proofs.Common.{◌≡◌, ℕ, suc, ◌≤◌, Bool, List, [], ◌∷◌, ◌++◌, length, refl, ap, sym, ◌∙◌, subst, Some, None, Result, Ok, inl, inr, length-append, arith}
 use Rattle.std.proofs.lemmas.List.{append-nil, append_assoc}
 use Rattle.c_lexer.specs.declared.token.Token.{Token}
-use Rattle.c_lexer.specs.declared.token.TokenKind.TheVariants.{Keyword, Name, Number, Character, Text, Punct}
 use Rattle.c_tree.specs.declared.specifier.Specifier.{Specifier}
 use Rattle.c_tree.specs.declared.expression.Expr.{Expr}
 use Rattle.c_tree.specs.declared.expression.Declarator.{Declarator}
-use Rattle.c_tree.specs.declared.declaration.Declaration.{Declaration}
 use Rattle.c_tree.specs.declared.declaration.Item.{Item}
-use Rattle.c_tree.specs.declared.declaration.Initializer.{Initializer}
-use Rattle.c_tree.specs.declared.declaration.Initializer.TheVariants as i
 use Rattle.c_parser.specs.declared.start.Start.{Start}
-use Rattle.c_parser.specs.declared.start.Start.TheVariants as at
 use Rattle.c_parser.specs.declared.start.Naming.{Naming}
 use Rattle.c_parser.specs.declared.start.Naming.TheVariants as how
-use Rattle.c_parser.specs.Codes.{kinds, code, one_of, of_kind, open_brace, close_brace, semicolon, equals, comma, specifier_starts, declarator_starts, binary_operators}
+use Rattle.c_parser.specs.Codes.{open_brace, semicolon, equals, comma, specifier_starts, declarator_starts, binary_operators}
 use Rattle.c_parser.specs.Nodes.{Bytes}
 use Rattle.c_parser.specs.StatementNodes.{item_node, declaration_node}
-use Rattle.c_parser.specs.Spelling.{Spelling, One, Is, Sequence, Further, Listed, Maybe, ◌or◌, push}
-use Rattle.c_parser.specs.Grammar.{IsSpecifiers, ExprAt, DeclaratorAt}
-use Rattle.c_parser.specs.Units.{AnyExpr, AnyDeclarator, IsInitializerLine, InitializerAt, IsInitializer, IsGiven, IsItem, IsDeclaration}
-use Rattle.c_parser.specs.Reading.{Reader, grown_from, begins, and_then, one, pure, stop, choose, grown, listed, behind_comma, specifiers, expr_at, declarator_at}
-use Rattle.c_parser.specs.ReadingUnits.{initializer_list, initializer_line, initializer_at, given, item, further_items, declaration}
+use Rattle.c_parser.specs.Spelling.{Spelling, One, Is, Sequence, Further, Maybe, ◌or◌, push}
+use Rattle.c_parser.specs.Grammar.{IsSpecifiers}
+use Rattle.c_parser.specs.Units.{AnyDeclarator, IsGiven, IsItem, IsDeclaration}
+use Rattle.c_parser.specs.Reading.{Reader, grown_from, begins, and_then, grown, expr_at, declarator_at}
 use Rattle.c_parser.proofs.Sound.{Reads, reads_is, reads_wider, reads_equal}
-use Rattle.c_parser.proofs.Repeat.{Filled}
-use Rattle.c_parser.proofs.Starts.{Starts, Opens, apart, within, starts_filled, starts_one, starts_sequence, starts_either, starts_wider, begins_with, begins_apart, starts_empty, apart_one, within_left, within_right, within_self}
-use Rattle.c_parser.proofs.Short.{reads_seq, reads_after, reads_map, reads_if, reads_swap, reads_repeat, reads_one, of}
-use Rattle.c_parser.proofs.Words.{starts_specifiers, reads_specifiers, reads_listed, starts_comma}
-use Rattle.c_parser.proofs.FoundAt.{reads_stop, found_at, a_name, name_word, sample_expr}
-use Rattle.c_parser.proofs.ExprStarts.{expr_starts, starts_expr, starts_declarator}
-use Rattle.c_parser.proofs.Again.{Ahead, Off, On, Anything, Again, Clear, again_seq, again_is, again_token, again_after, again_behind, again_map, again_choose, again_if, again_maybe, again_swap, again_repeat, clear_starts, clear_is, clear_or, clear_grown, clear_sequence, again_narrower, again_ahead, again_fewer, off_within}
-use Rattle.c_parser.proofs.ExprAgain.{expr_on, level_on, declarator_on, again_specifiers, again_listed, clear_any, clear_one, off_of}
-use Rattle.c_parser.proofs.AgainAt.{again_at, nothing}
-
-
+use Rattle.c_parser.proofs.Starts.{Starts, Opens, starts_filled, starts_one, starts_sequence, starts_either, starts_wider, starts_empty}
+use Rattle.c_parser.proofs.Short.{reads_seq, reads_map, reads_if, reads_repeat}
+use Rattle.c_parser.proofs.Words.{starts_specifiers, reads_specifiers, starts_comma}
+use Rattle.c_parser.proofs.Again.{Ahead, Off, Anything, Again, again_seq, again_is, again_map, again_if, again_repeat, clear_starts, clear_or, again_narrower, again_ahead, again_fewer}
+use Rattle.c_parser.proofs.ExprAgain.{expr_on, level_on, declarator_on, again_specifiers, clear_any}
 use Rattle.c_tree.specs.declared.statement.Stmt.{Stmt}
-use Rattle.c_tree.specs.declared.statement.ForStart.{ForStart}
-use Rattle.c_tree.specs.declared.statement.ForStart.TheVariants as f
-use Rattle.c_tree.specs.declared.statement.Block.{Block}
-use Rattle.c_tree.specs.declared.statement.BlockItem.{BlockItem}
-use Rattle.c_tree.specs.declared.statement.BlockItem.TheVariants as b
-use Rattle.c_parser.specs.Codes.{open_paren, close_paren, break_word, continue_word, do_word, else_word, for_word, if_word, return_word, while_word}
-use Rattle.c_parser.specs.StatementNodes.{block_node, block_stmt, empty_stmt, expr_stmt, if_stmt, while_stmt, do_stmt, for_stmt, continue_stmt, break_stmt, return_stmt}
-use Rattle.c_parser.specs.Spelling.{In_parens, Never, Many}
-use Rattle.c_parser.specs.Units.{IsBlockItem, IsBlock, IsBlockStmt, IsExprStmt, IsEmptyStmt, IsElse, IsIf, IsWhile, IsDo, IsOptional, IsForStart, IsFor, IsContinue, IsBreak, IsReturn, Closed, IsStmtLine, StmtAt}
-use Rattle.c_parser.specs.Reading.{in_parens, until, ◌>>=◌, ◌>>◌, ◌<$>◌}
-use Rattle.c_parser.specs.ReadingUnits.{optional, condition, for_start, block_item, block_items, block, expr_statement, if_statement, while_statement, do_statement, for_statement, return_statement, break_statement, continue_statement, stmt_line, statement_at}
-use Rattle.c_parser.proofs.Alike.{Alike, Heads, and_then_ok, ok_same, false_is_not_true}
-use Rattle.c_parser.proofs.Sound.{Found, Fault}
-use Rattle.c_parser.proofs.Repeat.{reads_grown}
-use Rattle.c_parser.proofs.Words.{reads_in_parens}
-use Rattle.c_parser.proofs.Declarations.{reads_fewer, any_starts, any_reads, declarator_any_reads, reads_declaration, starts_declaration}
-
-use Rattle.c_parser.proofs.Repeat.{Filled}
-use Rattle.c_parser.proofs.Unary.{same_word}
-use Rattle.c_parser.proofs.Again.{again_grown}
-use Rattle.c_parser.proofs.Past.{begins_other}
-use Rattle.c_parser.proofs.ExprAgain.{clear_on, again_empty, again_parens_here}
-use Rattle.c_parser.proofs.Declarations.{any_again, again_declaration}
+use Rattle.c_parser.specs.Spelling.{Many}
+use Rattle.c_parser.specs.Units.{IsBlock, StmtAt}
+use Rattle.c_parser.specs.ReadingUnits.{block, statement_at}
+use Rattle.c_parser.proofs.Alike.{and_then_ok, ok_same}
+use Rattle.c_parser.proofs.Declarations.{reads_fewer, declarator_any_reads, starts_declaration}
 use Rattle.c_parser.proofs.Statements.{stmt_starts, starts_block, starts_stmt_at}
-
 use Rattle.c_tree.specs.declared.unit.Unit.{Unit as TheUnit}
 use Rattle.c_tree.specs.declared.unit.External.{External}
 use Rattle.c_tree.specs.declared.unit.External.TheVariants as x
 use Rattle.c_parser.specs.StatementNodes.{function_node, unit_node}
-use Rattle.c_parser.specs.Units.{AnyStmt, IsFunctionDefinition, IsExternal, IsUnit, Derives}
+use Rattle.c_parser.specs.Units.{AnyStmt, IsFunctionDefinition, IsExternal, Derives}
 use Rattle.c_parser.specs.ReadingUnits.{function_body, other_items, external, ended, unit, unit_of}
-use Rattle.c_parser.proofs.Alike.{and_then_err, err_same, ok_is_no_err}
-use Rattle.c_parser.proofs.Sound.{Found, Fault}
 use Rattle.c_parser.proofs.Statements.{reads_block, reads_told_at, same_at, told_at, plain}
 use Rattle.c_parser.proofs.StatementsAgain.{Open, Tail, again_block, again_stmt_at}
 use Rattle.c_parser.proofs.Declarations.{IsFurther, reads_given, again_given, reads_further, again_further, item_on, declarator_any_starts, declarator_any_again, starts_given, to_left, from_left}
@@ -91,7 +58,7 @@ module _ (src : Bytes) (m : ℕ) where
   reads_body : Reads n (IsBlock src (AnyStmt src)) (block E D n statement)
   reads_body = reads_equal n (IsBlock src (AnyStmt src)) (block E D n (plain E D n (told_at E D n n))) (block E D n statement) (λ w. ap (λ s. block E D n s w) (same_at E D n n))
       (reads_block src n m (omega arith) (AnyStmt src) (told_at E D n n)
-        (reads_fewer (omega arith) (reads_wider n (StmtAt src (suc n)) (AnyStmt src) (told_at E D n n) (λ p w h. (suc n, h)) (reads_told_at src n n (omega arith)))) (starts_filled stmt_starts (AnyStmt src) starts_any_stmt))
+      (reads_fewer (omega arith) (reads_wider n (StmtAt src (suc n)) (AnyStmt src) (told_at E D n n) (λ p w h. (suc n, h)) (reads_told_at src n n (omega arith)))) (starts_filled stmt_starts (AnyStmt src) starts_any_stmt))
 
   again_any : (b : Bool) → Again n (Open b (AnyStmt src)) statement (Tail b)
   again_any b = record { read = λ x f rest h few p. (again_stmt_at src n h.1.0 n (omega arith) b).read x f rest (h.0, h.1.1, h.2) few p }
@@ -111,8 +78,14 @@ module _ (src : Bytes) (m : ℕ) where
   FromFront = Sequence IsSpecifiers (λ ss. Sequence (AnyDeclarator src how.Named) (λ declared. Body ss declared or Rest ss declared))
 
   to_front : (y : External) (w : List Token) → IsExternal src y w → FromFront y w
-  to_front y w (inl h) = record { of = h.of; front = h.front; back = h.back; parts = h.parts; first = h.first;
-      second = record { of = h.second.of; front = h.second.front; back = h.second.back; parts = h.second.parts; first = h.second.first; second = inl h.second.second } }
+  to_front y w (inl h) = record {
+    of = h.of;
+    front = h.front;
+    back = h.back;
+    parts = h.parts;
+    first = h.first;
+    second = record { of = h.second.of; front = h.second.front; back = h.second.back; parts = h.second.parts; first = h.second.first; second = inl h.second.second };
+  }
   to_front y w (inr h) =
       let k = to_left src n h.of h.front h.first in
       let it = k.second in
@@ -121,28 +94,79 @@ module _ (src : Bytes) (m : ℕ) where
       let P : Item → Type 0 = λ v. IsFurther src n (v ∷ []) it.second.of it.second.front in
       let whole : w ≡ k.front ++ k.back = h.parts ∙ (ap (λ v. h.front ++ v) h.second.1 ∙ (append-nil h.front ∙ k.parts)) in
       let middle : it.first.back ≡ g.front = g.parts ∙ (ap (λ v. g.front ++ v) g.second.1 ∙ append-nil g.front) in
-      record { of = k.of; front = k.front; back = k.back; parts = whole; first = k.first;
-        second = record { of = it.first.of; front = it.first.front; back = it.first.back ++ it.back; parts = it.parts ∙ (ap (λ v. v ++ it.back) it.first.parts ∙ append_assoc it.first.front it.first.back it.back);
+      record {
+        of = k.of;
+        front = k.front;
+        back = k.back;
+        parts = whole;
+        first = k.first;
+        second = record {
+          of = it.first.of;
+          front = it.first.front;
+          back = it.first.back ++ it.back;
+          parts = it.parts ∙ (ap (λ v. v ++ it.back) it.first.parts ∙ append_assoc it.first.front it.first.back it.back);
           first = it.first.first;
-          second = inr (record { of = g.of; front = g.front; back = it.back; parts = ap (λ v. v ++ it.back) middle; first = g.first;
-            second = record { of = it.second.of; front = it.second.front; back = it.second.back; parts = it.second.parts; first = subst P node it.second.first;
-              second = (h.second.0 ∙ ap x.Declaration it.second.second.0, it.second.second.1) } }) } }
+          second = inr (record {
+            of = g.of;
+            front = g.front;
+            back = it.back;
+            parts = ap (λ v. v ++ it.back) middle;
+            first = g.first;
+            second = record {
+              of = it.second.of;
+              front = it.second.front;
+              back = it.second.back;
+              parts = it.second.parts;
+              first = subst P node it.second.first;
+              second = (h.second.0 ∙ ap x.Declaration it.second.second.0, it.second.second.1);
+            };
+          });
+        };
+      }
 
   from_front : (y : External) (w : List Token) → FromFront y w → IsExternal src y w
   from_front y w h = elim h.second.second [
-      inl body ↦ inl (record { of = h.of; front = h.front; back = h.back; parts = h.parts; first = h.first;
-        second = record { of = h.second.of; front = h.second.front; back = h.second.back; parts = h.second.parts; first = h.second.first; second = body } })
+    | inl body ↦ inl (record {
+      of = h.of;
+      front = h.front;
+      back = h.back;
+      parts = h.parts;
+      first = h.first;
+      second = record { of = h.second.of; front = h.second.front; back = h.second.back; parts = h.second.parts; first = h.second.first; second = body };
+    })
     | inr more ↦
         (let node = item_node h.second.of more.of in
         let whole = declaration_node h.of more.second.of in
-        inr (record { of = whole; front = w; back = []; parts = sym (append-nil w);
-          first = from_left src n whole w (record { of = h.of; front = h.front; back = h.back; parts = h.parts; first = h.first;
-            second = record { of = node; front = h.second.front ++ more.front; back = more.back;
+        inr (record {
+          of = whole;
+          front = w;
+          back = [];
+          parts = sym (append-nil w);
+          first = from_left src n whole w (record {
+            of = h.of;
+            front = h.front;
+            back = h.back;
+            parts = h.parts;
+            first = h.first;
+            second = record {
+              of = node;
+              front = h.second.front ++ more.front;
+              back = more.back;
               parts = h.second.parts ∙ (ap (λ v. h.second.front ++ v) more.parts ∙ sym (append_assoc h.second.front more.front more.back));
-              first = record { of = h.second.of; front = h.second.front; back = more.front; parts = refl; first = h.second.first;
-                second = record { of = more.of; front = more.front; back = []; parts = sym (append-nil more.front); first = more.first; second = (refl, refl) } };
-              second = record { of = more.second.of; front = more.second.front; back = more.second.back; parts = more.second.parts; first = more.second.first; second = (refl, more.second.second.1) } } });
-          second = (more.second.second.0, refl) })) ]
+              first = record {
+                of = h.second.of;
+                front = h.second.front;
+                back = more.front;
+                parts = refl;
+                first = h.second.first;
+                second = record { of = more.of; front = more.front; back = []; parts = sym (append-nil more.front); first = more.first; second = (refl, refl) };
+              };
+              second = record { of = more.second.of; front = more.second.front; back = more.second.back; parts = more.second.parts; first = more.second.first; second = (refl, more.second.second.1) };
+            };
+          });
+          second = (more.second.second.0, refl);
+        }))
+  ]
 
   reads_rest : (ss : List Specifier) (declared : Declarator) → Reads n (Rest ss declared) (other_items E D n ss declared)
   unfolding other_items
@@ -166,13 +190,13 @@ module _ (src : Bytes) (m : ℕ) where
   starts_further : (found : List Item) → Starts (comma ∷ semicolon ∷ []) (IsFurther src n found)
   starts_further found items w h = behind_items h.first.0 h.first.1
     where
-    behind_items : (ys : List Item) → Many (Sequence (One comma) (λ _. IsItem src)) ys h.front → Opens (comma ∷ semicolon ∷ []) w
-    behind_items [] k =
-        let r = starts_wider (semicolon ∷ []) _ (starts_sequence (semicolon ∷ []) (One semicolon) (starts_one semicolon) (λ _. Is h.of)) (comma ∷ semicolon ∷ []) refl items h.back h.second in
-        record { first = r.first; rest = r.rest; parts = h.parts ∙ (ap (λ v. v ++ h.back) k ∙ r.parts); kind = r.kind }
-    behind_items (y ∷ ys) k =
-        let r = starts_wider (comma ∷ []) (Sequence (One comma) (λ _. IsItem src)) (starts_comma (IsItem src)) (comma ∷ semicolon ∷ []) refl y k.0 k.3 in
-        record { first = r.first; rest = (r.rest ++ k.1) ++ h.back; parts = h.parts ∙ (ap (λ v. v ++ h.back) k.2 ∙ ap (λ v. (v ++ k.1) ++ h.back) r.parts); kind = r.kind }
+      behind_items : (ys : List Item) → Many (Sequence (One comma) (λ _. IsItem src)) ys h.front → Opens (comma ∷ semicolon ∷ []) w
+      behind_items [] k =
+          let r = starts_wider (semicolon ∷ []) _ (starts_sequence (semicolon ∷ []) (One semicolon) (starts_one semicolon) (λ _. Is h.of)) (comma ∷ semicolon ∷ []) refl items h.back h.second in
+          record { first = r.first; rest = r.rest; parts = h.parts ∙ (ap (λ v. v ++ h.back) k ∙ r.parts); kind = r.kind }
+      behind_items (y ∷ ys) k =
+          let r = starts_wider (comma ∷ []) (Sequence (One comma) (λ _. IsItem src)) (starts_comma (IsItem src)) (comma ∷ semicolon ∷ []) refl y k.0 k.3 in
+          record { first = r.first; rest = (r.rest ++ k.1) ++ h.back; parts = h.parts ∙ (ap (λ v. v ++ h.back) k.2 ∙ ap (λ v. (v ++ k.1) ++ h.back) r.parts); kind = r.kind }
 
   starts_rest : (ss : List Specifier) (declared : Declarator) → Starts rest_starts (Rest ss declared)
   starts_rest ss declared = starts_empty rest_starts (Sequence (IsGiven src) (λ g. Is (Some g))) None _
@@ -194,8 +218,8 @@ module _ (src : Bytes) (m : ℕ) where
   again_external {P = P} = again_narrower to_front (again_ahead {P = Anything} {Q = P} (λ rest q. tt) (again_seq (again_specifiers n)
       (λ ss. clear_starts declarator_starts specifier_starts (starts_sequence declarator_starts (AnyDeclarator src how.Named) (declarator_any_starts src how.Named) _) refl)
       (λ ss. again_seq (declarator_any_again src n how.Named)
-        (λ declared. clear_or (clear_starts (open_brace ∷ []) declarator_on (starts_body ss declared) refl) (clear_starts rest_starts declarator_on (starts_rest ss declared) refl))
-        (λ declared. again_if (open_brace ∷ []) rest_starts (open_brace ∷ []) (starts_body ss declared) refl (starts_rest ss declared) refl (again_function ss declared) (again_rest ss declared)))))
+      (λ declared. clear_or (clear_starts (open_brace ∷ []) declarator_on (starts_body ss declared) refl) (clear_starts rest_starts declarator_on (starts_rest ss declared) refl))
+      (λ declared. again_if (open_brace ∷ []) rest_starts (open_brace ∷ []) (starts_body ss declared) refl (starts_rest ss declared) refl (again_function ss declared) (again_rest ss declared)))))
 
   starts_external : Starts specifier_starts (IsExternal src)
   starts_external = starts_either specifier_starts (IsFunctionDefinition src) (Sequence (IsDeclaration src) (λ y. Is (x.Declaration y))) (starts_sequence specifier_starts IsSpecifiers starts_specifiers _) (starts_sequence specifier_starts (IsDeclaration src) (starts_declaration src) _)
@@ -230,7 +254,7 @@ unit_found src w u rest m e =
 
 -- ---- with as much depth as there are tokens
 
-nothing_read : (src : Bytes) → unit_of src [] ≡ Ok (unit_node [], [])
+pub nothing_read : (src : Bytes) → unit_of src [] ≡ Ok (unit_node [], [])
 unfolding unit_of unit grown_from
 nothing_read src = refl
 
@@ -243,7 +267,7 @@ unfolding unit_of
 unit_of_derived src [] u h = nothing_read src ∙ (sym (nothing_at_one src) ∙ unit_again src [] u 0 (omega arith) h)
 unit_of_derived src (t ∷ w) u h = unit_again src (t ∷ w) u (length w) (omega arith) h
 
-empty_unit : (src : Bytes) → Derives [] src (unit_node [])
+pub empty_unit : (src : Bytes) → Derives [] src (unit_node [])
 empty_unit src = record { of = []; front = []; back = []; parts = refl; first = ([], refl, refl); second = (refl, refl) }
 
 pub unit_of_found : (src : Bytes) (w : List Token) (u : TheUnit) (rest : List Token) → unit_of src w ≡ Ok (u, rest) → Derives w src u × (rest ≡ [])

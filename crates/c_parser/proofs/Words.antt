@@ -1,17 +1,15 @@
 -- Specifiers and pointers: what they begin with, and that they are found.
-use Rattle.std.proofs.Common.{◌≡◌, ℕ, zero, suc, ◌+◌, Bool, true, false, List, [], ◌∷◌, ◌++◌, refl, ap, sym, ◌∙◌, Option, Some, None, fold}
-use Rattle.c_lexer.specs.declared.token.Token.{Token}
-use Rattle.c_lexer.specs.declared.token.TokenKind.TheVariants.{Keyword, Name, Number, Character, Text, Punct}
+use Rattle.std.proofs.Common.{ℕ, suc, true, [], ◌∷◌, refl}
+use Rattle.c_lexer.specs.declared.token.TokenKind.TheVariants.{Keyword, Punct}
 use Rattle.c_tree.specs.declared.specifier.SpecifierWord.TheVariants.{Int}
-use Rattle.c_parser.specs.Codes.{Table, star, kinds, qualifiers, specifier_words, specifier_starts, open_paren, close_paren, comma}
-use Rattle.c_parser.specs.Spelling.{Spelling, One, Sign, Is, Sequence, Grown, Further, Some_of, Listed, Maybe, In_parens, ◌or◌, push}
+use Rattle.c_parser.specs.Codes.{star, kinds, qualifiers, specifier_words, specifier_starts, open_paren, close_paren, comma}
+use Rattle.c_parser.specs.Spelling.{Spelling, One, Sign, Is, Sequence, Grown, Further, Listed, In_parens, push}
 use Rattle.c_parser.specs.Grammar.{IsSpecifier, IsSpecifiers, IsPointer, IsPointers}
 use Rattle.c_parser.specs.Nodes.{specifier_node, pointer_node, qualified}
-use Rattle.c_parser.specs.Reading.{Reader, begins, one, sign, pure, grown, listed, behind_comma, in_parens, specifier, specifiers, pointer, pointers}
+use Rattle.c_parser.specs.Reading.{Reader, listed, in_parens, specifier, specifiers, pointer, pointers}
 use Rattle.c_parser.proofs.Sound.{Reads, reads_is}
-use Rattle.c_parser.proofs.Repeat.{Filled}
 use Rattle.c_parser.proofs.Starts.{Starts, starts_filled, starts_sequence, starts_one, starts_sign}
-use Rattle.c_parser.proofs.Short.{reads_seq, reads_after, reads_map, reads_if, reads_swap, reads_repeat, reads_one, reads_sign}
+use Rattle.c_parser.proofs.Short.{reads_seq, reads_after, reads_map, reads_repeat, reads_one, reads_sign}
 
 pub starts_specifier : Starts specifier_starts IsSpecifier
 starts_specifier = starts_sequence specifier_starts (Sign specifier_words) (starts_sign specifier_words) (λ p. Is (specifier_node p.0 p.1))

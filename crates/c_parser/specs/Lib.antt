@@ -5,6 +5,7 @@ pub mod Spelling
 pub mod Grammar
 pub mod Units
 pub mod Nesting
+pub mod LevelStack
 pub mod Refusals
 pub mod Reading
 pub mod ReadingUnits

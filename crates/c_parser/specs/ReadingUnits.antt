@@ -165,15 +165,15 @@ module _ (expr : Start → Reader Expr) (declarator : Naming → Reader Declarat
 
       unfoldable pub stmt_line : Reader Stmt
       stmt_line =
-        choose (begins (open_brace ∷ [])) (block_stmt <$> block)
-        (choose (begins (semicolon ∷ [])) ((λ t. empty_stmt t.line) <$> one semicolon)
-        (choose (begins (if_word ∷ [])) if_statement
-        (choose (begins (while_word ∷ [])) while_statement
-        (choose (begins (do_word ∷ [])) do_statement
-        (choose (begins (for_word ∷ [])) for_statement
-        (choose (begins (return_word ∷ [])) return_statement
-        (choose (begins (break_word ∷ [])) break_statement
-        (choose (begins (continue_word ∷ [])) continue_statement expr_statement))))))))
+          choose (begins (open_brace ∷ [])) (block_stmt <$> block)
+          (choose (begins (semicolon ∷ [])) ((λ t. empty_stmt t.line) <$> one semicolon)
+          (choose (begins (if_word ∷ [])) if_statement
+          (choose (begins (while_word ∷ [])) while_statement
+          (choose (begins (do_word ∷ [])) do_statement
+          (choose (begins (for_word ∷ [])) for_statement
+          (choose (begins (return_word ∷ [])) return_statement
+          (choose (begins (break_word ∷ [])) break_statement
+          (choose (begins (continue_word ∷ [])) continue_statement expr_statement))))))))
 
     unfoldable pub statement_at : ℕ → Reader Stmt
     statement_at zero = stop

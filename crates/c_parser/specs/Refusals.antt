@@ -1,8 +1,8 @@
 -- Why the tokens of a source are no unit, and where.
-use Rattle.std.specs.Prelude.{◌≡◌, ℕ, ◌<◌, ◌≤◌, ◌⊎◌, Bool, true, false, not, ◌||◌, IsTrue, List, [], ◌∷◌, ◌++◌, length, take, Option, Some, None, IfSome}
+use Rattle.std.specs.Prelude.{◌≡◌, ℕ, ◌<◌, Bool, false, not, if◌then◌else◌, List, [], ◌∷◌, ◌++◌, length, Some, IfSome}
 use Rattle.c_lexer.specs.declared.token.Token.{Token}
 use Rattle.c_lexer.specs.declared.token.TokenKind.{TokenKind}
-use Rattle.c_lexer.specs.declared.token.TokenKind.TheVariants.{Keyword, Name, Number, Character, Text, Punct}
+use Rattle.c_lexer.specs.declared.token.TokenKind.TheVariants.{Keyword, Punct}
 use Rattle.c_tree.specs.declared.unit.Unit.{Unit as TheUnit}
 use Rattle.c_parser.specs.declared.refusal.ParseRefusal.{ParseRefusal}
 use Rattle.c_parser.specs.declared.refusal.ParseRefusal.TheVariants.{Expected, LeftOut, TooDeep, Memory}
@@ -13,7 +13,7 @@ use Rattle.c_parser.specs.Nesting.{first_too_deep}
 
 -- Tokens begin a unit where some tokens behind them complete one.
 abbrev pub BeginsUnit : List Token → Bytes → Type 0
-BeginsUnit tokens src = (more : List Token) (unit : TheUnit) × Derives (tokens ++ more) src unit
+BeginsUnit tokens src = (more : List Token) × (unit : TheUnit) × Derives (tokens ++ more) src unit
 
 -- The tokens stop being a unit in front of these last ones: those before begin a unit, and with the next one,
 -- if there is one, they do not; or else the tokens end before a unit does.
@@ -53,7 +53,7 @@ NoneTooDeep tokens front = IfSome (first_too_deep tokens) (λ deep. length front
 -- The source is refused for this reason: the first token that is nested too deeply, where the tokens before it
 -- begin a unit; or else where the tokens stop being a unit.
 abbrev pub Refuses : List Token → Bytes → ParseRefusal → Type 0
-Refuses tokens src (TooDeep place) = (front : List Token) (t : Token) (rest : List Token)
+Refuses tokens src (TooDeep place) = (front : List Token) × (t : Token) × (rest : List Token)
     × (tokens ≡ front ++ t ∷ rest) × (first_too_deep tokens ≡ Some (length front)) × BeginsUnit front src × (place ≡ t.start)
 Refuses tokens src Memory = ⊥
 Refuses tokens src refusal = (front rest : List Token) × RefusedAt tokens src front rest × NoneTooDeep tokens front × IsRefusalOf src rest refusal

@@ -177,7 +177,7 @@ module _ (src : Bytes) where
 
     abbrev pub IsStmtLine : Spelling (Stmt × Bool)
     IsStmtLine =
-      Closed IsBlockStmt or Closed IsEmptyStmt or IsIf or IsWhile or Closed IsDo or IsFor or Closed IsReturn or Closed IsBreak or Closed IsContinue or Closed IsExprStmt
+        Closed IsBlockStmt or Closed IsEmptyStmt or IsIf or IsWhile or Closed IsDo or IsFor or Closed IsReturn or Closed IsBreak or Closed IsContinue or Closed IsExprStmt
 
   unfoldable pub StmtAt : ℕ → Spelling (Stmt × Bool)
   StmtAt zero p w = ⊥

@@ -1,20 +1,36 @@
 //! Laws of the grammar.
 
-ghost use Rattle.std.specs.Prelude.{◌≡◌, ℕ, List};
+ghost use Rattle.std.specs.Prelude.{◌≡◌, ℕ, ◌++◌, List, None};
 ghost use Rattle.c_lexer.specs.declared.token.Token.{Token};
 ghost use Rattle.c_tree.specs.declared.expression.Expr.{Expr};
 ghost use Rattle.c_tree.specs.declared.unit.Unit.{Unit as TheUnit};
 ghost use Rattle.c_parser.specs.Grammar.{DerivesExpression};
+ghost use Rattle.c_parser.specs.Nesting.{first_too_deep};
+ghost use Rattle.c_parser.specs.Refusals.{BeginsUnit, Refuses};
 ghost use Rattle.c_parser.specs.Units.{Derives};
+ghost use Rattle.c_parser.specs.declared.refusal.ParseRefusal.{ParseRefusal};
 
 /// Some tokens are at most one expression.
 pub fn one_expression()
     ensures { (tokens : List Token) (src : List ℕ) (a b : Expr) → DerivesExpression tokens src a → DerivesExpression tokens src b → a ≡ b }
-{
-}
+{}
 
 /// Some tokens are at most one unit.
 pub fn one_unit()
     ensures { (tokens : List Token) (src : List ℕ) (a b : TheUnit) → Derives tokens src a → Derives tokens src b → a ≡ b }
-{
-}
+{}
+
+/// Some tokens are refused for at most one reason, at one place.
+pub fn one_refusal()
+    ensures { (tokens : List Token) (src : List ℕ) (a b : ParseRefusal) → Refuses tokens src a → Refuses tokens src b → a ≡ b }
+{}
+
+/// Tokens that are refused are no unit whose tokens are all nested deeply enough at most.
+pub fn refusal_excludes_unit()
+    ensures { (tokens : List Token) (src : List ℕ) (refusal : ParseRefusal) (unit : TheUnit) → Refuses tokens src refusal → first_too_deep tokens ≡ None → Derives tokens src unit → ⊥ }
+{}
+
+/// The tokens in front of a refused one can be continued to a unit.
+pub fn refused_front_begins_unit()
+    ensures { (tokens : List Token) (src : List ℕ) (refusal : ParseRefusal) → Refuses tokens src refusal → (front rest : List Token) × (tokens ≡ front ++ rest) × BeginsUnit front src }
+{}
