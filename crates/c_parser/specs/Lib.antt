@@ -13,3 +13,4 @@ pub mod Outcome
 pub mod Parts
 pub mod UnitOutcome
 pub mod UnitParts
+pub mod ForParts

@@ -4,6 +4,7 @@ ghost use Rattle.std.specs.Prelude.{◌≡◌, length};
 ghost use Rattle.c_parser.specs.Reading as reading;
 ghost use Rattle.c_parser.specs.ReadingUnits as units;
 ghost use Rattle.c_parser.specs.UnitParts as parts;
+ghost use Rattle.c_parser.specs.ForParts as loop_parts;
 ghost use Rattle.c_parser.specs.Outcome.{Gives, seen};
 ghost use Rattle.c_parser.specs.UnitOutcome.{at_statement, at_source, LeadsToStatement};
 
@@ -16,7 +17,7 @@ use crate::source::Source;
 use crate::start::Start;
 use crate::tokens::{begins, begins_in, one};
 use c_lexer::Token;
-use c_tree::{Block, BlockItem, Stmt, StmtNode};
+use c_tree::{Block, BlockItem, Expr, ForStart, Stmt, StmtNode};
 use sqlite_items::{Boxed, Items};
 
 /// The lines of the grammar of statements, with the function that they lead back to.
@@ -129,8 +130,22 @@ where
         Ok((Some(Boxed::new(self.source.alloc, stmt)?), rest))
     }
 
+    /// What follows the first branch of an `if` statement, with what stands before.
+    #[tactic(auto, unfolding(crate::specs::StatementNodes::stmt_at))]
+    fn if_second<'t>(&self, line: u32, condition: Expr, first: Boxed<Stmt>, tokens: &'t [Token]) -> Read<'t, Stmt>
+        requires { LeadsToStatement S.Fn self.now.stmt self.now.source.src.now self.now.source.depth self.now.left }
+        ensures { Gives seen result (at_statement loop_parts.if_second self.now.source.src.now self.now.source.depth self.now.left line condition first tokens.now) }
+    {
+        let (second, rest) = self.second_branch(tokens)?;
+        let stmt = Stmt {
+            line,
+            node: StmtNode::If(condition, first, second),
+        };
+        Ok((stmt, rest))
+    }
+
     /// C11 6.8.4.1
-    #[tactic(auto, unfolding(crate::specs::ReadingUnits::if_statement, crate::specs::StatementNodes::stmt_at))]
+    #[tactic(auto, unfolding(crate::specs::ReadingUnits::if_statement))]
     fn if_statement<'t>(&self, tokens: &'t [Token]) -> Read<'t, Stmt>
         requires { LeadsToStatement S.Fn self.now.stmt self.now.source.src.now self.now.source.depth self.now.left }
         ensures { Gives seen result (at_statement units.if_statement self.now.source.src.now self.now.source.depth self.now.left tokens.now) }
@@ -138,12 +153,8 @@ where
         let (word, rest) = one(IF, tokens)?;
         let (condition, rest) = self.source.condition(rest)?;
         let (first, rest) = (self.stmt)(rest)?;
-        let (second, rest) = self.second_branch(rest)?;
         let first = Boxed::new(self.source.alloc, first)?;
-        let stmt = Stmt {
-            line: word.line,
-            node: StmtNode::If(condition, first, second),
-        };
+        let (stmt, rest) = self.if_second(word.line, condition, first, rest)?;
         Ok((stmt, rest))
     }
 
@@ -183,8 +194,36 @@ where
         Ok((stmt, rest))
     }
 
+    /// The step of a `for` statement, the `)` and the body, with what stands before.
+    #[tactic(auto, unfolding(crate::specs::StatementNodes::stmt_at))]
+    fn for_step<'t>(&self, line: u32, start: ForStart, condition: Option<Expr>, tokens: &'t [Token]) -> Read<'t, Stmt>
+        requires { LeadsToStatement S.Fn self.now.stmt self.now.source.src.now self.now.source.depth self.now.left }
+        ensures { Gives seen result (at_statement loop_parts.for_step self.now.source.src.now self.now.source.depth self.now.left line start condition tokens.now) }
+    {
+        let (step, rest) = self.source.optional(CLOSE_PAREN, tokens)?;
+        let (_close, rest) = one(CLOSE_PAREN, rest)?;
+        let (body, rest) = (self.stmt)(rest)?;
+        let body = Boxed::new(self.source.alloc, body)?;
+        let stmt = Stmt {
+            line,
+            node: StmtNode::For(start, condition, step, body),
+        };
+        Ok((stmt, rest))
+    }
+
+    /// The condition of a `for` statement and all that follows, with what stands before.
+    fn for_condition<'t>(&self, line: u32, start: ForStart, tokens: &'t [Token]) -> Read<'t, Stmt>
+        requires { LeadsToStatement S.Fn self.now.stmt self.now.source.src.now self.now.source.depth self.now.left }
+        ensures { Gives seen result (at_statement loop_parts.for_condition self.now.source.src.now self.now.source.depth self.now.left line start tokens.now) }
+    {
+        let (condition, rest) = self.source.optional(SEMICOLON, tokens)?;
+        let (_semicolon, rest) = one(SEMICOLON, rest)?;
+        let (stmt, rest) = self.for_step(line, start, condition, rest)?;
+        Ok((stmt, rest))
+    }
+
     /// C11 6.8.5.3
-    #[tactic(auto, unfolding(crate::specs::ReadingUnits::for_statement, crate::specs::StatementNodes::stmt_at))]
+    #[tactic(auto, unfolding(crate::specs::ReadingUnits::for_statement))]
     fn for_statement<'t>(&self, tokens: &'t [Token]) -> Read<'t, Stmt>
         requires { LeadsToStatement S.Fn self.now.stmt self.now.source.src.now self.now.source.depth self.now.left }
         ensures { Gives seen result (at_statement units.for_statement self.now.source.src.now self.now.source.depth self.now.left tokens.now) }
@@ -192,16 +231,7 @@ where
         let (word, rest) = one(FOR, tokens)?;
         let (_open, rest) = one(OPEN_PAREN, rest)?;
         let (start, rest) = self.source.for_start(rest)?;
-        let (condition, rest) = self.source.optional(SEMICOLON, rest)?;
-        let (_semicolon, rest) = one(SEMICOLON, rest)?;
-        let (step, rest) = self.source.optional(CLOSE_PAREN, rest)?;
-        let (_close, rest) = one(CLOSE_PAREN, rest)?;
-        let (body, rest) = (self.stmt)(rest)?;
-        let body = Boxed::new(self.source.alloc, body)?;
-        let stmt = Stmt {
-            line: word.line,
-            node: StmtNode::For(start, condition, step, body),
-        };
+        let (stmt, rest) = self.for_condition(word.line, start, rest)?;
         Ok((stmt, rest))
     }
 
