@@ -2,6 +2,8 @@
 //! stop being one.
 #![tactic(auto)]
 
+#[cfg(test)]
+mod accepted;
 mod codes;
 mod declarator;
 mod expression;
@@ -16,6 +18,8 @@ mod refusal;
 mod source;
 mod start;
 mod statement;
+#[cfg(test)]
+mod refusals;
 #[cfg(test)]
 mod tests;
 mod tokens;
