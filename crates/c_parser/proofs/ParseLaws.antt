@@ -1,6 +1,6 @@
 -- What the whole parse answers: the unit, the refusal of the tokens, or that of the first token that is nested too
 -- deeply, whichever place is first.
-use Rattle.std.proofs.Common.{◌≡◌, ℕ, zero, suc, ◌+◌, ◌-◌, ◌<◌, Bool, true, false, List, [], ◌∷◌, ◌++◌, length, take, drop, get_or, refl, ap, sym, ◌∙◌, subst, Option, Some, None, Ok, Err, ◌⊎◌, inl, inr, if◌then◌else◌, length-append, arith}
+use Rattle.std.proofs.Common.{◌≡◌, ℕ, zero, suc, ◌+◌, ◌-◌, ◌≤◌, Result, ◌<◌, Bool, true, false, List, [], ◌∷◌, ◌++◌, length, take, drop, get_or, refl, ap, sym, ◌∙◌, subst, Option, Some, None, Ok, Err, ◌⊎◌, inl, inr, if◌then◌else◌, length-append, arith}
 use Rattle.std.specs.Prelude.{IfSome}
 use Rattle.std.proofs.lemmas.List.{append-nil, append_assoc, take-append-drop, length-take-le}
 use Rattle.std.proofs.Math.Seq.{drop-append_seam}
@@ -12,9 +12,10 @@ use Rattle.c_parser.specs.Nodes.{Bytes}
 use Rattle.c_parser.specs.Units.{Derives}
 use Rattle.c_parser.specs.Nesting.{first_too_deep}
 use Rattle.c_parser.specs.Refusals.{BeginsUnit, Stops, RefusedAt, is_left_out, IsRefusalOf, NoneTooDeep, Refuses}
+use Rattle.c_parser.specs.Answers.{Answers, IsUnitWithin, UnlessMemory}
 use Rattle.c_parser.specs.ReadingUnits.{unit_of}
 use Rattle.c_parser.proofs.Alike.{head_same, tail_same, some_same}
-use Rattle.c_parser.proofs.UnitLaws.{unit_of_found}
+use Rattle.c_parser.proofs.UnitLaws.{one_unit_of, unit_of_found}
 use Rattle.c_parser.proofs.RefusalLaws.{unit_of_refused, refusal_is_no_unit, cut_once}
 
 -- ---- beginnings
@@ -226,3 +227,41 @@ one_refusal_of tokens src (LeftOut p x) (TooDeep q) h k = absurd (not_both src t
 one_refusal_of tokens src (TooDeep p) (Expected q) h k = absurd (not_both src tokens (Expected q) p k h)
 one_refusal_of tokens src (TooDeep p) (LeftOut q y) h k = absurd (not_both src tokens (LeftOut q y) p k h)
 one_refusal_of tokens src (TooDeep p) (TooDeep q) h k = both_deep src tokens p q h k
+
+-- ---- from what the parse answers
+
+-- not more tokens are left than there are
+pub refused_left : (src : Bytes) (w : List Token) (left : ℕ) → unit_of src w ≡ Err left → left ≤ length w
+refused_left src w left e =
+    let found = unit_of_refused src w left e in
+    let sum : length w ≡ length found.0 + length found.1 = ap length found.2.parts ∙ length-append found.0 found.1 in
+    let size : left ≡ length found.1 = found.3 in omega arith
+
+refuses_of : (tokens : List Token) (src : Bytes) (e : ParseRefusal) → Answers tokens src (Err e) → (e ≡ Memory) ⊎ Refuses tokens src e
+refuses_of tokens src (Expected place) h = inr h
+refuses_of tokens src (LeftOut place kind) h = inr h
+refuses_of tokens src (TooDeep place) h = inr h
+refuses_of tokens src Memory h = inl refl
+
+pub answers_refusal : (tokens : List Token) (src : Bytes) (e : ParseRefusal) → Refuses tokens src e → Answers tokens src (Err e)
+answers_refusal tokens src (Expected place) h = h
+answers_refusal tokens src (LeftOut place kind) h = h
+answers_refusal tokens src (TooDeep place) h = h
+answers_refusal tokens src Memory h = tt
+
+pub answers_found : (tokens : List Token) (src : Bytes) (result : Result TheUnit ParseRefusal) → Answers tokens src result → (unit : TheUnit) → IsUnitWithin tokens src unit → UnlessMemory result (Ok unit)
+answers_found tokens src (Ok u) h unit k = inr (ap Ok (one_unit_of src tokens u unit h.0 k.0))
+answers_found tokens src (Err e) h unit k = elim (refuses_of tokens src e h) [
+  | inl memory ↦ inl (ap Err memory)
+  | inr refuses ↦ absurd (refuses_no_unit tokens src e unit refuses k.1 k.0)
+]
+
+pub answers_refused : (tokens : List Token) (src : Bytes) (result : Result TheUnit ParseRefusal) → Answers tokens src result → (refusal : ParseRefusal) → Refuses tokens src refusal → UnlessMemory result (Err refusal)
+answers_refused tokens src (Ok u) h refusal k = absurd (refuses_no_unit tokens src refusal u k h.1 h.0)
+answers_refused tokens src (Err e) h refusal k = elim (refuses_of tokens src e h) [
+  | inl memory ↦ inl (ap Err memory)
+  | inr refuses ↦ inr (ap Err (one_refusal_of tokens src e refusal refuses k))
+]
+
+pub answers_unit : (tokens : List Token) (src : Bytes) (unit : TheUnit) (rest : List Token) → first_too_deep tokens ≡ None → unit_of src tokens ≡ Ok (unit, rest) → Answers tokens src (Ok unit)
+answers_unit tokens src unit rest none e = ((unit_of_found src tokens unit rest e).0, none)
