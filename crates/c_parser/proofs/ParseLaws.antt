@@ -2,7 +2,7 @@
 -- deeply, whichever place is first.
 use Rattle.std.proofs.Common.{◌≡◌, ℕ, zero, suc, ◌+◌, ◌-◌, ◌≤◌, Result, ◌<◌, Bool, true, false, List, [], ◌∷◌, ◌++◌, length, take, drop, get_or, refl, ap, sym, ◌∙◌, subst, Option, Some, None, Ok, Err, ◌⊎◌, inl, inr, if◌then◌else◌, length-append, arith}
 use Rattle.std.specs.Prelude.{IfSome}
-use Rattle.std.proofs.lemmas.List.{append-nil, append_assoc, take-append-drop, length-take-le}
+use Rattle.std.proofs.lemmas.List.{append-nil, append_assoc, take-append-drop, length-take-le, length-drop}
 use Rattle.std.proofs.Math.Seq.{drop-append_seam}
 use Rattle.c_lexer.specs.declared.token.Token.{Token}
 use Rattle.c_tree.specs.declared.unit.Unit.{Unit as TheUnit}
@@ -265,3 +265,41 @@ answers_refused tokens src (Err e) h refusal k = elim (refuses_of tokens src e h
 
 pub answers_unit : (tokens : List Token) (src : Bytes) (unit : TheUnit) (rest : List Token) → first_too_deep tokens ≡ None → unit_of src tokens ≡ Ok (unit, rest) → Answers tokens src (Ok unit)
 answers_unit tokens src unit rest none e = ((unit_of_found src tokens unit rest e).0, none)
+
+-- ---- at a place in the tokens
+
+cut_with : (tokens : List Token) (at : ℕ) (d : Token) → at < length tokens → tokens ≡ take at tokens ++ get_or tokens at d ∷ drop (suc at) tokens
+cut_with [] at d lt = absurd (omega arith)
+cut_with (u ∷ tokens) zero d lt = refl
+cut_with (u ∷ tokens) (suc at) d lt = ap (λ v. u ∷ v) (cut_with tokens at d (omega arith))
+
+deep_place : (src : Bytes) (tokens : List Token) (at : ℕ) (d : Token) → at < length tokens → first_too_deep tokens ≡ Some at → BeginsUnit (take at tokens) src → Answers tokens src (Err (TooDeep (get_or tokens at d).start))
+deep_place src tokens at d lt deep b =
+    (take at tokens, get_or tokens at d, drop (suc at) tokens, cut_with tokens at d lt, deep ∙ ap Some (front_length tokens at lt), b, refl)
+
+pub deep_at_unit : (src : Bytes) (tokens : List Token) (at : ℕ) (d : Token) (u : TheUnit) (rest : List Token) → at < length tokens → first_too_deep tokens ≡ Some at → unit_of src (take at tokens) ≡ Ok (u, rest)
+    → Answers tokens src (Err (TooDeep (get_or tokens at d).start))
+deep_at_unit src tokens at d u rest lt deep e = deep_place src tokens at d lt deep (unit_begins src (take at tokens) u (unit_of_found src (take at tokens) u rest e).0)
+
+pub deep_at_beginning : (src : Bytes) (tokens : List Token) (at left : ℕ) (d : Token) → at < length tokens → first_too_deep tokens ≡ Some at → left ≡ 0 → unit_of src (take at tokens) ≡ Err left
+    → Answers tokens src (Err (TooDeep (get_or tokens at d).start))
+deep_at_beginning src tokens at left d lt deep z e =
+    let found = unit_of_refused src (take at tokens) left e in
+    let P : List Token → Type 0 = λ v. BeginsUnit v src in
+    deep_place src tokens at d lt deep (subst P (end_front (take at tokens) found.0 found.1 found.2.parts (sym z ∙ found.3)) found.2.begins)
+
+pub front_left : (src : Bytes) (tokens : List Token) (at left : ℕ) → at < length tokens → unit_of src (take at tokens) ≡ Err left → left ≤ at
+front_left src tokens at left lt e = let low = refused_left src (take at tokens) left e in let long = front_length tokens at lt in omega (arith, low, long)
+
+take_whole : (tokens : List Token) (n : ℕ) → length tokens ≤ n → take n tokens ≡ tokens
+take_whole [] zero le = refl
+take_whole [] (suc n) le = refl
+take_whole (t ∷ tokens) zero le = absurd (omega arith)
+take_whole (t ∷ tokens) (suc n) le = ap (λ v. t ∷ v) (take_whole tokens n (omega arith))
+
+-- the tokens from a place on, as a slice
+slice_from : (tokens : List Token) (k : ℕ) → take (length tokens - k) (drop k tokens) ≡ drop k tokens
+slice_from tokens k = take_whole (drop k tokens) (length tokens - k) (let e = length-drop k tokens in omega (arith, e))
+
+pub slice_refusal : (src : Bytes) (tokens : List Token) (k : ℕ) (refusal : ParseRefusal) → IsRefusalOf src (take (length tokens - k) (drop k tokens)) refusal → IsRefusalOf src (drop k tokens) refusal
+slice_refusal src tokens k refusal h = let P : List Token → Type 0 = λ v. IsRefusalOf src v refusal in subst P (slice_from tokens k) h

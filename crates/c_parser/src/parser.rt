@@ -1,9 +1,10 @@
 //! The whole parse.
 
-ghost use Rattle.std.specs.Prelude.{◌≡◌, ◌≤◌, ◌^◌, Ok, Err, length};
+ghost use Rattle.std.specs.Prelude.{◌≡◌, ◌≤◌, ◌<◌, Ok, Err, Some, None, length};
 ghost use Rattle.c_lexer.specs.Tokens.{Lexes};
 ghost use Rattle.c_tree.specs.declared.unit.Unit.{Unit as TheUnit};
 ghost use Rattle.c_parser.specs.declared.refusal.ParseRefusal.{ParseRefusal as Refusal};
+ghost use Rattle.c_parser.specs.Nesting as nesting;
 ghost use Rattle.c_parser.specs.Refusals as refusals;
 ghost use Rattle.c_parser.specs.Answers.{Answers, IsUnitWithin, UnlessMemory};
 
@@ -46,6 +47,56 @@ fn refusal(src: &[u8], rest: &[Token]) -> ParseRefusal
     }
 }
 
+/// What the tokens are, where none of them is nested too deeply.
+fn whole(alloc: Global, tokens: &[Token], src: &[u8]) -> Result<Unit, ParseRefusal>
+    requires size { length src.now ≤ 1048576 }
+    requires none { nesting.first_too_deep tokens.now ≡ None }
+    ensures { Answers tokens.now src.now result }
+{
+    match unit(alloc, src, tokens) {
+        Ok(unit) => Ok(unit),
+        Err(Fault::Refused(left)) => {
+            let rest = &tokens[tokens.len() - left..];
+            Err(refusal(src, rest))
+        }
+        Err(Fault::Memory) => Err(ParseRefusal::Memory),
+    }
+}
+
+/// What they are, where the one at this place is the first that is nested too deeply.
+fn in_front(alloc: Global, tokens: &[Token], src: &[u8], at: usize) -> Result<Unit, ParseRefusal>
+    requires size { length src.now ≤ 1048576 }
+    requires within { at < length tokens.now }
+    requires deep { nesting.first_too_deep tokens.now ≡ Some at }
+    ensures { Answers tokens.now src.now result }
+{
+    let front = &tokens[..at];
+    let first = tokens[at];
+    match unit(alloc, src, front) {
+        Ok(_unit) => Err(ParseRefusal::TooDeep(first.start)),
+        Err(Fault::Refused(left)) => {
+            if left == 0 {
+                Err(ParseRefusal::TooDeep(first.start))
+            } else {
+                let rest = &tokens[at - left..];
+                Err(refusal(src, rest))
+            }
+        }
+        Err(Fault::Memory) => Err(ParseRefusal::Memory),
+    }
+}
+
+/// What the tokens are.
+fn answer(alloc: Global, tokens: &[Token], src: &[u8]) -> Result<Unit, ParseRefusal>
+    requires { length src.now ≤ 1048576 }
+    ensures { Answers tokens.now src.now result }
+{
+    match first_too_deep(alloc, tokens)? {
+        None => whole(alloc, tokens, src),
+        Some(at) => in_front(alloc, tokens, src, at),
+    }
+}
+
 /// The unit that the tokens of a source are, or the place at which they stop being one (C11 6.5 to 6.9, in the
 /// accepted subset).
 pub fn parse(alloc: Global, tokens: &[Token], src: &[u8]) -> Result<Unit, ParseRefusal>
@@ -58,17 +109,5 @@ pub fn parse(alloc: Global, tokens: &[Token], src: &[u8]) -> Result<Unit, ParseR
     // Each refusal is told.
     ensures refused { (refusal : Refusal) → refusals.Refuses tokens.now src.now refusal → UnlessMemory result (Err refusal) }
 {
-    match first_too_deep(alloc, tokens)? {
-        None => match unit(alloc, src, tokens) {
-            Ok(unit) => Ok(unit),
-            Err(Fault::Refused(left)) => Err(refusal(src, &tokens[tokens.len() - left..])),
-            Err(Fault::Memory) => Err(ParseRefusal::Memory),
-        },
-        Some(at) => match unit(alloc, src, &tokens[..at]) {
-            Ok(_unit) => Err(ParseRefusal::TooDeep(tokens[at].start)),
-            Err(Fault::Refused(0)) => Err(ParseRefusal::TooDeep(tokens[at].start)),
-            Err(Fault::Refused(left)) => Err(refusal(src, &tokens[at - left..])),
-            Err(Fault::Memory) => Err(ParseRefusal::Memory),
-        },
-    }
+    answer(alloc, tokens, src)
 }
