@@ -96,6 +96,20 @@ fn binary_node(alloc: Global, left: Expr, line: u32, op: BinaryOp, right: Expr) 
 }
 
 #[tactic(auto, unfolding(crate::specs::Nodes::at_line, crate::specs::Nodes::line_of))]
+fn conditional_node(alloc: Global, condition: Expr, line: u32, first: Expr, second: Expr) -> Result<Expr, AllocError>
+    ensures { IfOk result (λ x. x ≡ nodes.conditional_node condition line first second) }
+{
+    let at = condition.line;
+    let condition = Boxed::new(alloc, condition)?;
+    let first = Boxed::new(alloc, first)?;
+    let second = Boxed::new(alloc, second)?;
+    Ok(Expr {
+        line: at,
+        node: ExprNode::Conditional(condition, line, first, second),
+    })
+}
+
+#[tactic(auto, unfolding(crate::specs::Nodes::at_line, crate::specs::Nodes::line_of))]
 fn assign_node(alloc: Global, left: Expr, line: u32, op: Option<Op>, right: Expr) -> Result<Expr, AllocError>
     ensures { IfOk result (λ x. x ≡ nodes.assign_node left line op right) }
 {
@@ -477,7 +491,7 @@ where
     }
 
     /// `?` and both branches behind a condition.
-    #[tactic(auto, unfolding(crate::specs::Reading::branches, crate::specs::Nodes::at_line, crate::specs::Nodes::line_of))]
+    #[tactic(auto, unfolding(crate::specs::Reading::branches))]
     fn branches<'t>(&self, condition: Expr, tokens: &'t [Token]) -> Read<'t, Expr>
         requires { Leads E.Fn D.Fn self.now.expr self.now.declarator self.now.src.now self.now.depth }
         ensures { Gives seen result (parts.applied (at_depth reading.branches self.now.src.now self.now.depth) condition tokens.now) }
@@ -486,12 +500,8 @@ where
         let (first, rest) = (self.expr)(Start::Expression, rest)?;
         let (_colon, rest) = one(COLON, rest)?;
         let (second, rest) = (self.expr)(Start::Conditional, rest)?;
-        let line = condition.line;
-        let condition = Boxed::new(self.alloc, condition)?;
-        let first = Boxed::new(self.alloc, first)?;
-        let second = Boxed::new(self.alloc, second)?;
-        let node = ExprNode::Conditional(condition, question.line, first, second);
-        Ok((Expr { line, node }, rest))
+        let expr = conditional_node(self.alloc, condition, question.line, first, second)?;
+        Ok((expr, rest))
     }
 
     /// C11 6.5.15

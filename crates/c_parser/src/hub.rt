@@ -13,6 +13,7 @@ use std::alloc::Global;
 
 /// An expression, which leads back to expressions and declarators so many times at most.
 #[cycle(hub)]
+#[tactic(auto, unfolding(crate::specs::Reading::expr_at, crate::specs::Reading::declarator_at))]
 pub fn expr_at<'t>(alloc: Global, src: &[u8], depth: usize, start: Start, tokens: &'t [Token]) -> Read<'t, Expr>
     ensures { Gives seen result (reading.expr_at src.now depth start tokens.now) }
 {
@@ -40,6 +41,7 @@ pub fn expr_at<'t>(alloc: Global, src: &[u8], depth: usize, start: Start, tokens
 
 /// A declarator, which leads back to expressions and declarators so many times at most.
 #[cycle(hub)]
+#[tactic(auto, unfolding(crate::specs::Reading::expr_at, crate::specs::Reading::declarator_at))]
 pub fn declarator_at<'t>(alloc: Global, src: &[u8], depth: usize, naming: Naming, tokens: &'t [Token]) -> Read<'t, Declarator>
     ensures { Gives seen result (reading.declarator_at src.now depth naming tokens.now) }
 {
