@@ -3,7 +3,8 @@ use Rattle.std.proofs.Common.{◌≡◌, ℕ, zero, suc, ◌+◌, ◌-◌, ◌�
 use Rattle.c_lexer.specs.declared.token.Token.{Token}
 use Rattle.c_parser.specs.declared.nesting.Level.{Level}
 use Rattle.c_parser.specs.Codes.{code, one_of, open_bracket, close_bracket, open_paren, close_paren, open_brace, close_brace, comma, semicolon, do_word, else_word, while_word}
-use Rattle.c_parser.specs.Nesting.{Levels, behind_end, settled, found_by, opened, closed, counted, is_nesting_word, is_operator, behind, weight, around, nesting_in, nestings, first_above, max_nesting}
+use Rattle.c_parser.specs.Nesting.{Levels, behind_end, settled, found_by, opened, closed, counted, is_nesting_word, is_operator, behind, weight, around, nesting_in, nestings, first_above, first_too_deep, at_start, max_nesting}
+use Rattle.c_parser.proofs.Alike.{some_same}
 use Rattle.c_parser.specs.LevelStack.{levels_of, IsCounted, IsTame, AreTame}
 use Rattle.c_parser.specs.declared.nesting.LevelStack.{LevelStack}
 
@@ -29,15 +30,17 @@ none_open d e = grind (arith, e)
 end_below : (k : ℕ) (l : Level) → Below (behind_end k l) l
 end_below k l = by_dos (nat_lt 0 l.dos) refl
   where
-  by_while : (b : Bool) → Below (if b then record l { dos = l.dos - 1 } else l) l
-  by_while true = (omega arith, omega arith, λ h. omega (arith, h))
-  by_while false = below_same l
-  by_else : (b : Bool) → l.dos ≤ 0 → Below (if b then l else record l { words = 0 }) l
-  by_else true h = below_same l
-  by_else false h = (omega arith, omega arith, λ _. h)
-  by_dos : (b : Bool) → nat_lt 0 l.dos ≡ b → Below (if b then (if k == while_word then record l { dos = l.dos - 1 } else l) else (if k == else_word then l else record l { words = 0 })) l
-  by_dos true e = by_while (k == while_word)
-  by_dos false e = by_else (k == else_word) (none_open l.dos e)
+    by_while : (b : Bool) → Below (if b then record l { dos = l.dos - 1 } else l) l
+    by_while true = (omega arith, omega arith, λ h. omega (arith, h))
+    by_while false = below_same l
+
+    by_else : (b : Bool) → l.dos ≤ 0 → Below (if b then l else record l { words = 0 }) l
+    by_else true h = below_same l
+    by_else false h = (omega arith, omega arith, λ _. h)
+
+    by_dos : (b : Bool) → nat_lt 0 l.dos ≡ b → Below (if b then (if k == while_word then record l { dos = l.dos - 1 } else l) else (if k == else_word then l else record l { words = 0 })) l
+    by_dos true e = by_while (k == while_word)
+    by_dos false e = by_else (k == else_word) (none_open l.dos e)
 
 settled_below : (k : ℕ) (l : Level) (b : Bool) → Below (settled l (behind_end k l) b) l
 settled_below k l true = end_below k l
@@ -55,18 +58,21 @@ Grows a b = (weight a ≤ weight b + 1) × (IsTame b → IsTame a)
 counted_grows : (k : ℕ) (l : Level) → Grows (counted k l) l
 counted_grows k l = by_word (is_nesting_word k)
   where
-  by_do : (b : Bool) → Grows (record l { words = l.words + 1; dos = (if b then l.dos + 1 else l.dos) }) l
-  by_do true = (omega arith, λ h. omega (arith, h))
-  by_do false = (omega arith, λ h. omega (arith, h))
-  by_reset : (b : Bool) → Grows (if b then record l { operators = 0 } else l) l
-  by_reset true = (omega arith, λ h. h)
-  by_reset false = (omega arith, λ h. h)
-  by_operator : (b : Bool) → Grows (if b then record l { operators = l.operators + 1 } else (if one_of (comma ∷ semicolon ∷ open_brace ∷ []) k then record l { operators = 0 } else l)) l
-  by_operator true = (omega arith, λ h. h)
-  by_operator false = by_reset (one_of (comma ∷ semicolon ∷ open_brace ∷ []) k)
-  by_word : (b : Bool) → Grows (if b then record l { words = l.words + 1; dos = (if k == do_word then l.dos + 1 else l.dos) } else (if is_operator k then record l { operators = l.operators + 1 } else (if one_of (comma ∷ semicolon ∷ open_brace ∷ []) k then record l { operators = 0 } else l))) l
-  by_word true = by_do (k == do_word)
-  by_word false = by_operator (is_operator k)
+    by_do : (b : Bool) → Grows (record l { words = l.words + 1; dos = (if b then l.dos + 1 else l.dos) }) l
+    by_do true = (omega arith, λ h. omega (arith, h))
+    by_do false = (omega arith, λ h. omega (arith, h))
+
+    by_reset : (b : Bool) → Grows (if b then record l { operators = 0 } else l) l
+    by_reset true = (omega arith, λ h. h)
+    by_reset false = (omega arith, λ h. h)
+
+    by_operator : (b : Bool) → Grows (if b then record l { operators = l.operators + 1 } else (if one_of (comma ∷ semicolon ∷ open_brace ∷ []) k then record l { operators = 0 } else l)) l
+    by_operator true = (omega arith, λ h. h)
+    by_operator false = by_reset (one_of (comma ∷ semicolon ∷ open_brace ∷ []) k)
+
+    by_word : (b : Bool) → Grows (if b then record l { words = l.words + 1; dos = (if k == do_word then l.dos + 1 else l.dos) } else (if is_operator k then record l { operators = l.operators + 1 } else (if one_of (comma ∷ semicolon ∷ open_brace ∷ []) k then record l { operators = 0 } else l))) l
+    by_word true = by_do (k == do_word)
+    by_word false = by_operator (is_operator k)
 
 abbrev All_tame : Levels → Type 0
 All_tame s = AreTame (s.innermost ∷ s.others)
@@ -83,12 +89,13 @@ behind_steps : (k : ℕ) (l : Level) (others : List Level) → Steps (behind k (
 unfolding behind nesting_in
 behind_steps k l others = by_open (one_of (open_paren ∷ open_bracket ∷ open_brace ∷ []) k)
   where
-  by_close : (b : Bool) → Steps (if b then closed (counted k l) (k == close_brace) others else record { innermost = counted k l; others = others; ended = k == semicolon }) l others
-  by_close true = closed_steps (counted k l) l (k == close_brace) others (counted_grows k l)
-  by_close false = let g = (counted_grows k l).0 in (omega (arith, g), λ t. ((counted_grows k l).1 t.0, t.1))
-  by_open : (b : Bool) → Steps (if b then opened (counted k l) (k == open_brace) others else (if one_of (close_paren ∷ close_bracket ∷ close_brace ∷ []) k then closed (counted k l) (k == close_brace) others else record { innermost = counted k l; others = others; ended = k == semicolon })) l others
-  by_open true = let g = (counted_grows k l).0 in (omega (arith, g), λ t. (omega arith, ((counted_grows k l).1 t.0, t.1)))
-  by_open false = by_close (one_of (close_paren ∷ close_bracket ∷ close_brace ∷ []) k)
+    by_close : (b : Bool) → Steps (if b then closed (counted k l) (k == close_brace) others else record { innermost = counted k l; others = others; ended = k == semicolon }) l others
+    by_close true = closed_steps (counted k l) l (k == close_brace) others (counted_grows k l)
+    by_close false = let g = (counted_grows k l).0 in (omega (arith, g), λ t. ((counted_grows k l).1 t.0, t.1))
+
+    by_open : (b : Bool) → Steps (if b then opened (counted k l) (k == open_brace) others else (if one_of (close_paren ∷ close_bracket ∷ close_brace ∷ []) k then closed (counted k l) (k == close_brace) others else record { innermost = counted k l; others = others; ended = k == semicolon })) l others
+    by_open true = let g = (counted_grows k l).0 in (omega (arith, g), λ t. (omega arith, ((counted_grows k l).1 t.0, t.1)))
+    by_open false = by_close (one_of (close_paren ∷ close_bracket ∷ close_brace ∷ []) k)
 
 pub behind_small : (k : ℕ) (l : Level) (others : List Level) → nesting_in (behind k (record { innermost = l; others = others; ended = false })) ≤ around others + weight l + 2
 behind_small k l others = (behind_steps k l others).0
@@ -174,3 +181,21 @@ pub nesting_after : (new : LevelStack) (s : Levels) → levels_of new ≡ s → 
 unfolding nesting_in
 nesting_after new s e counted small =
     let same : nesting_in (levels_of new) ≡ nesting_in s = ap nesting_in e in omega (arith, counted, same, small)
+
+above_within : (tokens : List Token) (s : Levels) (k : ℕ) → first_above (nestings s tokens) ≡ Some k → k < length tokens
+unfolding nestings first_above
+above_within [] s k e = absurd (cc)
+above_within (t ∷ rest) s k e = by_test (nat_lt max_nesting (nesting_in (found_by (code t) s))) (first_above (nestings (behind (code t) (found_by (code t) s)) rest)) (λ j d. above_within rest (behind (code t) (found_by (code t) s)) j d) e
+  where
+    next_within : (o : Option ℕ) → ((j : ℕ) → o ≡ Some j → j < length rest) → option_map (λ j. suc j) o ≡ Some k → k < length (t ∷ rest)
+    next_within None h d = absurd (cc)
+    next_within (Some j) h d = let same : suc j ≡ k = some_same d in let low = h j refl in omega (arith, same, low)
+
+    by_test : (b : Bool) (o : Option ℕ) → ((j : ℕ) → o ≡ Some j → j < length rest) → (if b then Some 0 else option_map (λ j. suc j) o) ≡ Some k → k < length (t ∷ rest)
+    by_test true o h d = let same : 0 ≡ k = some_same d in omega (arith, same)
+    by_test false o h d = next_within o h d
+
+-- the first token that is nested too deeply is one of the tokens
+pub deep_within : (tokens : List Token) (at : ℕ) → first_too_deep tokens ≡ Some at → at < length tokens
+unfolding first_too_deep
+deep_within tokens at e = above_within tokens at_start at e

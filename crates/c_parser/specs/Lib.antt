@@ -7,6 +7,7 @@ pub mod Units
 pub mod Nesting
 pub mod LevelStack
 pub mod Refusals
+pub mod Answers
 pub mod Reading
 pub mod ReadingUnits
 pub mod Outcome

@@ -5,8 +5,8 @@ ghost use Rattle.c_parser.specs.Nesting as spec;
 ghost use Rattle.c_parser.specs.LevelStack.{levels_of, IsCounted, IsTame, AreTame};
 
 use crate::codes::{
-    CLOSE_BRACE, CLOSE_BRACKET, CLOSE_PAREN, COMMA, DO, ELSE, FOR, IF, OPEN_BRACE, OPEN_BRACKET, OPEN_PAREN, PUNCT,
-    SEMICOLON, SIZEOF, WHILE, code,
+    CLOSE_BRACE, CLOSE_BRACKET, CLOSE_PAREN, COMMA, DO, ELSE, FOR, IF, OPEN_BRACE, OPEN_BRACKET,
+    OPEN_PAREN, PUNCT, SEMICOLON, SIZEOF, WHILE, code,
 };
 use crate::tokens::one_of;
 use c_lexer::Token;
@@ -42,7 +42,14 @@ fn started(brace: bool) -> Level
 fn is_operator(kind: u16) -> bool
     ensures { result ≡ spec.is_operator kind }
 {
-    let separators = [COMMA, SEMICOLON, OPEN_BRACE, CLOSE_BRACE, CLOSE_PAREN, CLOSE_BRACKET];
+    let separators = [
+        COMMA,
+        SEMICOLON,
+        OPEN_BRACE,
+        CLOSE_BRACE,
+        CLOSE_PAREN,
+        CLOSE_BRACKET,
+    ];
     kind == SIZEOF || PUNCT <= kind && !one_of(&separators, kind)
 }
 

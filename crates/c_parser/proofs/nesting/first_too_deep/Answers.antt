@@ -8,11 +8,11 @@ use Rattle.c_parser.proofs.nesting.first_too_deep.Goals as goal
 pub loop-at-init : goal.loop-at-init
 unfolding spec.first_too_deep
 loop-at-init c = record {
-    counted = rw c.new.ensures.items refl;
-    size = rw c.started.ensures (omega arith);
-    tame = rw (c.started.ensures, c.new.ensures.items) (omega arith, tt);
-    progress = ap (λ s. later 0 (spec.first_above (spec.nestings s c.args.tokens.now))) (ap (λ l. record { innermost = l; others = reverse c.new.result.items; ended = false }) c.started.ensures ∙ ap (λ v. record { innermost = spec.started false; others = reverse v; ended = false }) c.new.ensures.items) ∙ later_zero _;
-  }
+  counted = rw c.new.ensures.items refl;
+  size = rw c.started.ensures (omega arith);
+  tame = rw (c.started.ensures, c.new.ensures.items) (omega arith, tt);
+  progress = ap (λ s. later 0 (spec.first_above (spec.nestings s c.args.tokens.now))) (ap (λ l. record { innermost = l; others = reverse c.new.result.items; ended = false }) c.started.ensures ∙ ap (λ v. record { innermost = spec.started false; others = reverse v; ended = false }) c.new.ensures.items) ∙ later_zero _;
+}
 
 pub weight-requires-clause-operators : goal.weight-requires-clause-operators
 weight-requires-clause-operators c =
@@ -57,10 +57,10 @@ loop-at-preserved c =
     record {
       counted = c.in_ok-read.ensures.counted;
       size = nesting_after c.read.new.self (spec.behind k (record { innermost = found; others = others; ended = false })) after c.in_ok-read.ensures.counted
-        (omega (arith, small, c.loop-at.invariant.counted, c.weight.ensures, c.if-levels-weight-gt-NESTING.false));
+          (omega (arith, small, c.loop-at.invariant.counted, c.weight.ensures, c.if-levels-weight-gt-NESTING.false));
       tame = (let P : spec.Levels → Type 0 = λ v. AreTame (v.innermost ∷ v.others) in subst P (sym after) tame_after);
       progress = ap (λ v. later (c.loop-at.at + 1) (spec.first_above (spec.nestings v (drop (c.loop-at.at + 1) c.args.tokens.now)))) (after ∙ sym (behind_of k s found c.found_by-found.ensures))
-        ∙ (sym (past_at c.args.tokens.now c.loop-at.at k _ s c.loop-at-test.true c.code-kind.ensures low) ∙ c.loop-at.invariant.progress);
+          ∙ (sym (past_at c.args.tokens.now c.loop-at.at k _ s c.loop-at-test.true c.code-kind.ensures low) ∙ c.loop-at.invariant.progress);
     }
 
 pub returns : goal.returns

@@ -7,8 +7,8 @@ use Rattle.c_parser.proofs.nesting.first_too_deep.Given as goal
 
 abbrev pub invariant-loop-at : goal.invariant-loop-at
 invariant-loop-at l = record {
-    counted : IsCounted l.levels;
-    size : l.levels.outer + weight l.levels.innermost ≤ 402;
-    tame : AreTame (l.levels.innermost ∷ reverse l.levels.others.items);
-    progress : later l.at (first_above (nestings (levels_of l.levels) (drop l.at l.tokens))) ≡ first_too_deep l.tokens;
-  }
+  counted : IsCounted l.levels;
+  size : l.levels.outer + weight l.levels.innermost ≤ 402;
+  tame : AreTame (l.levels.innermost ∷ reverse l.levels.others.items);
+  progress : later l.at (first_above (nestings (levels_of l.levels) (drop l.at l.tokens))) ≡ first_too_deep l.tokens;
+}
