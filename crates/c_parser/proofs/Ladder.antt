@@ -27,7 +27,7 @@ module _ (src : Bytes) (expr : Start → Reader Expr) (declarator : Naming → R
   last (suc n) k x w =
       let e : (k + 1) + n ≡ k + suc n = omega arith in
       regrouped (operations src expr declarator k x w) (λ y. ladder src expr declarator (suc n) (k + 1) y) (λ y. ladder src expr declarator n (k + 1) y) (operations src expr declarator (k + suc n))
-          (λ y v. last n (k + 1) y v ∙ ap (λ m. and_then (ladder src expr declarator n (k + 1) y v) (operations src expr declarator m)) e)
+      (λ y v. last n (k + 1) y v ∙ ap (λ m. and_then (ladder src expr declarator n (k + 1) y v) (operations src expr declarator m)) e)
 
   pub level_is : (n : ℕ) (w : List Token) → climbed src expr declarator n w ≡ level src expr declarator n w
   unfolding ladder level
@@ -35,7 +35,7 @@ module _ (src : Bytes) (expr : Start → Reader Expr) (declarator : Naming → R
   level_is (suc n) w =
       let e : 0 + n ≡ n = omega arith in
       regrouped (cast src expr declarator w) (λ y. ladder src expr declarator (suc n) 0 y) (λ y. ladder src expr declarator n 0 y) (operations src expr declarator n)
-          (λ y v. last n 0 y v ∙ ap (λ m. and_then (ladder src expr declarator n 0 y v) (operations src expr declarator m)) e)
+      (λ y v. last n 0 y v ∙ ap (λ m. and_then (ladder src expr declarator n 0 y v) (operations src expr declarator m)) e)
       ∙ ap (λ r. and_then r (operations src expr declarator n)) (level_is n w)
 
   turn : (n k : ℕ) (x next : Expr) (w rest : List Token) → operations src expr declarator k x w ≡ Ok (next, rest)

@@ -7,8 +7,8 @@ ghost use Rattle.c_parser.specs.Parts as parts;
 ghost use Rattle.c_parser.specs.Outcome.{Gives, seen, at_depth, Leads};
 
 use crate::codes::{
-    ABSTRACT_STARTS, CLOSE_BRACKET, CLOSE_PAREN, COMMA, DECLARATOR_STARTS, NAME, NAMED_STARTS, OPEN_BRACKET, OPEN_PAREN,
-    QUALIFIERS, SPECIFIER_WORDS, STAR, SUFFIX_STARTS,
+    ABSTRACT_STARTS, CLOSE_BRACKET, CLOSE_PAREN, COMMA, DECLARATOR_STARTS, NAME, NAMED_STARTS,
+    OPEN_BRACKET, OPEN_PAREN, QUALIFIERS, SPECIFIER_WORDS, STAR, SUFFIX_STARTS,
 };
 use crate::fault::{Fault, Read};
 use crate::grammar::Grammar;
@@ -53,9 +53,15 @@ fn qualified(pointer: Pointer, is_const: bool) -> Pointer
     ensures { result ≡ nodes.qualified pointer is_const }
 {
     if is_const {
-        Pointer { is_const: true, ..pointer }
+        Pointer {
+            is_const: true,
+            ..pointer
+        }
     } else {
-        Pointer { is_volatile: true, ..pointer }
+        Pointer {
+            is_volatile: true,
+            ..pointer
+        }
     }
 }
 
@@ -138,7 +144,12 @@ where
     }
 
     /// The declarator of a parameter, if it has one.
-    fn declared<'t>(&self, naming: Naming, starts: &[u16], tokens: &'t [Token]) -> Read<'t, Option<Boxed<Declarator>>>
+    fn declared<'t>(
+        &self,
+        naming: Naming,
+        starts: &[u16],
+        tokens: &'t [Token],
+    ) -> Read<'t, Option<Boxed<Declarator>>>
         requires { Leads E.Fn D.Fn self.now.expr self.now.declarator self.now.src.now self.now.depth }
         ensures { Gives seen result (at_depth parts.declared self.now.src.now self.now.depth naming starts.now tokens.now) }
     {
@@ -157,7 +168,14 @@ where
         let (specifiers, rest) = specifiers(self.alloc, tokens)?;
         let (declarator, rest) = self.declared(Naming::Either, &DECLARATOR_STARTS, rest)?;
         let line = first_line(&specifiers);
-        Ok((Parameter { line, specifiers, declarator }, rest))
+        Ok((
+            Parameter {
+                line,
+                specifiers,
+                declarator,
+            },
+            rest,
+        ))
     }
 
     /// A parameter behind a comma.
@@ -254,7 +272,10 @@ where
         let (name, rest) = one(NAME, tokens)?;
         let (suffixes, rest) = self.suffixes(Items::new(self.alloc), rest)?;
         let bytes = spelling(self.alloc, self.src, name)?;
-        let name = Name { line: name.line, bytes };
+        let name = Name {
+            line: name.line,
+            bytes,
+        };
         Ok(((Direct::Name(name), suffixes), rest))
     }
 
@@ -330,7 +351,12 @@ where
 
     /// The same behind pointers, behind which a declarator without a name may end.
     #[tactic(auto, unfolding(crate::specs::Reading::core_behind))]
-    fn core_behind<'t>(&self, naming: Naming, pointers: &Items<Pointer>, tokens: &'t [Token]) -> Read<'t, (Direct, Items<Suffix>)>
+    fn core_behind<'t>(
+        &self,
+        naming: Naming,
+        pointers: &Items<Pointer>,
+        tokens: &'t [Token],
+    ) -> Read<'t, (Direct, Items<Suffix>)>
         requires { Leads E.Fn D.Fn self.now.expr self.now.declarator self.now.src.now self.now.depth }
         ensures { Gives seen result (at_depth reading.core_behind self.now.src.now self.now.depth naming pointers.now tokens.now) }
     {
@@ -371,6 +397,13 @@ where
         let (specifiers, rest) = specifiers(self.alloc, tokens)?;
         let (declarator, rest) = self.declared(Naming::Unnamed, &ABSTRACT_STARTS, rest)?;
         let line = first_line(&specifiers);
-        Ok((TypeName { line, specifiers, declarator }, rest))
+        Ok((
+            TypeName {
+                line,
+                specifiers,
+                declarator,
+            },
+            rest,
+        ))
     }
 }

@@ -8,8 +8,9 @@ ghost use Rattle.c_parser.specs.Outcome.{Gives, seen, at_depth, Leads};
 ghost use Rattle.c_parser.specs.declared.start.Start.TheVariants as start;
 
 use crate::codes::{
-    ASSIGNMENT_OPERATORS, CLOSE_BRACKET, CLOSE_PAREN, COLON, COMMA, LEVELS, NAME, OPEN_BRACKET, OPEN_PAREN,
-    POSTFIX_OPERATORS, POSTFIX_STARTS, QUESTION, SIZEOF, STEP_OPERATORS, TEXT, UNARY_OPERATORS, binary_operators,
+    ASSIGNMENT_OPERATORS, CLOSE_BRACKET, CLOSE_PAREN, COLON, COMMA, LEVELS, NAME, OPEN_BRACKET,
+    OPEN_PAREN, POSTFIX_OPERATORS, POSTFIX_STARTS, QUESTION, SIZEOF, STEP_OPERATORS, TEXT,
+    UNARY_OPERATORS, binary_operators,
 };
 use crate::fault::{Fault, Read};
 use crate::grammar::Grammar;
@@ -49,7 +50,12 @@ fn name<'t>(alloc: Global, src: &[u8], tokens: &'t [Token]) -> Read<'t, Expr>
 
 /// The bytes of texts behind bytes of the same node.
 #[tactic(auto, unfolding(crate::specs::Reading::grown_from))]
-fn text_bytes_behind<'t>(alloc: Global, src: &[u8], before: Items<u8>, tokens: &'t [Token]) -> Read<'t, Items<u8>>
+fn text_bytes_behind<'t>(
+    alloc: Global,
+    src: &[u8],
+    before: Items<u8>,
+    tokens: &'t [Token],
+) -> Read<'t, Items<u8>>
     ensures { Gives seen result (parts.texts_behind src.now before tokens.now) }
 {
     let mut bytes = before;
@@ -83,7 +89,13 @@ fn is_unary(expr: &Expr) -> bool
 
 /// A node with the line of the expression that it begins with.
 #[tactic(auto, unfolding(crate::specs::Nodes::at_line, crate::specs::Nodes::line_of))]
-fn binary_node(alloc: Global, left: Expr, line: u32, op: BinaryOp, right: Expr) -> Result<Expr, AllocError>
+fn binary_node(
+    alloc: Global,
+    left: Expr,
+    line: u32,
+    op: BinaryOp,
+    right: Expr,
+) -> Result<Expr, AllocError>
     ensures { IfOk result (λ x. x ≡ nodes.binary_node left line op right) }
 {
     let first = left.line;
@@ -96,7 +108,13 @@ fn binary_node(alloc: Global, left: Expr, line: u32, op: BinaryOp, right: Expr) 
 }
 
 #[tactic(auto, unfolding(crate::specs::Nodes::at_line, crate::specs::Nodes::line_of))]
-fn conditional_node(alloc: Global, condition: Expr, line: u32, first: Expr, second: Expr) -> Result<Expr, AllocError>
+fn conditional_node(
+    alloc: Global,
+    condition: Expr,
+    line: u32,
+    first: Expr,
+    second: Expr,
+) -> Result<Expr, AllocError>
     ensures { IfOk result (λ x. x ≡ nodes.conditional_node condition line first second) }
 {
     let at = condition.line;
@@ -110,7 +128,13 @@ fn conditional_node(alloc: Global, condition: Expr, line: u32, first: Expr, seco
 }
 
 #[tactic(auto, unfolding(crate::specs::Nodes::at_line, crate::specs::Nodes::line_of))]
-fn assign_node(alloc: Global, left: Expr, line: u32, op: Option<Op>, right: Expr) -> Result<Expr, AllocError>
+fn assign_node(
+    alloc: Global,
+    left: Expr,
+    line: u32,
+    op: Option<Op>,
+    right: Expr,
+) -> Result<Expr, AllocError>
     ensures { IfOk result (λ x. x ≡ nodes.assign_node left line op right) }
 {
     let first = left.line;
@@ -149,7 +173,13 @@ where
             [] => Err(Fault::Refused(0)),
             [first, rest @ ..] => match constant_node(first.kind) {
                 None => Err(Fault::Refused(tokens.len())),
-                Some(node) => Ok((Expr { line: first.line, node }, rest)),
+                Some(node) => Ok((
+                    Expr {
+                        line: first.line,
+                        node,
+                    },
+                    rest,
+                )),
             },
         }
     }
@@ -362,7 +392,12 @@ where
 
     /// An operator of a table before its operand.
     #[tactic(auto, unfolding(crate::specs::Reading::prefix, crate::specs::Nodes::at_line))]
-    fn prefix<'t>(&self, table: &[(u16, PrefixOp)], start: Start, tokens: &'t [Token]) -> Read<'t, Expr>
+    fn prefix<'t>(
+        &self,
+        table: &[(u16, PrefixOp)],
+        start: Start,
+        tokens: &'t [Token],
+    ) -> Read<'t, Expr>
         requires { Leads E.Fn D.Fn self.now.expr self.now.declarator self.now.src.now self.now.depth }
         ensures { Gives seen result (at_depth reading.prefix self.now.src.now self.now.depth table.now start tokens.now) }
     {

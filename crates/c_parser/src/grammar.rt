@@ -24,7 +24,13 @@ where
     E: Fn(Start, &[Token]) -> Result<(Expr, &[Token]), Fault>,
     D: Fn(Naming, &[Token]) -> Result<(Declarator, &[Token]), Fault>,
 {
-    pub fn new(alloc: Global, src: &'s [u8], depth: usize, expr: E, declarator: D) -> Grammar<'s, E, D>
+    pub fn new(
+        alloc: Global,
+        src: &'s [u8],
+        depth: usize,
+        expr: E,
+        declarator: D,
+    ) -> Grammar<'s, E, D>
         ensures src { result.src.now ≡ src.entry.now }
         ensures depth { result.depth ≡ depth }
         ensures expr { result.expr ≡ expr }

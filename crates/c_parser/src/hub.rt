@@ -14,7 +14,13 @@ use std::alloc::Global;
 /// An expression, which leads back to expressions and declarators so many times at most.
 #[cycle(hub)]
 #[tactic(auto, unfolding(crate::specs::Reading::expr_at, crate::specs::Reading::declarator_at))]
-pub fn expr_at<'t>(alloc: Global, src: &[u8], depth: usize, start: Start, tokens: &'t [Token]) -> Read<'t, Expr>
+pub fn expr_at<'t>(
+    alloc: Global,
+    src: &[u8],
+    depth: usize,
+    start: Start,
+    tokens: &'t [Token],
+) -> Read<'t, Expr>
     ensures { Gives seen result (reading.expr_at src.now depth start tokens.now) }
 {
     if depth == 0 {
@@ -27,14 +33,10 @@ pub fn expr_at<'t>(alloc: Global, src: &[u8], depth: usize, start: Start, tokens
         below,
         |start, rest|
             ensures { Gives seen result (reading.expr_at src.entry.now below start rest.now) }
-        {
-            expr_at(alloc, src, below, start, rest)
-        },
+        { expr_at(alloc, src, below, start, rest) },
         |naming, rest|
             ensures { Gives seen result (reading.declarator_at src.entry.now below naming rest.now) }
-        {
-            declarator_at(alloc, src, below, naming, rest)
-        },
+        { declarator_at(alloc, src, below, naming, rest) },
     );
     grammar.expr_line(start, tokens)
 }
@@ -42,7 +44,13 @@ pub fn expr_at<'t>(alloc: Global, src: &[u8], depth: usize, start: Start, tokens
 /// A declarator, which leads back to expressions and declarators so many times at most.
 #[cycle(hub)]
 #[tactic(auto, unfolding(crate::specs::Reading::expr_at, crate::specs::Reading::declarator_at))]
-pub fn declarator_at<'t>(alloc: Global, src: &[u8], depth: usize, naming: Naming, tokens: &'t [Token]) -> Read<'t, Declarator>
+pub fn declarator_at<'t>(
+    alloc: Global,
+    src: &[u8],
+    depth: usize,
+    naming: Naming,
+    tokens: &'t [Token],
+) -> Read<'t, Declarator>
     ensures { Gives seen result (reading.declarator_at src.now depth naming tokens.now) }
 {
     if depth == 0 {
@@ -55,14 +63,10 @@ pub fn declarator_at<'t>(alloc: Global, src: &[u8], depth: usize, naming: Naming
         below,
         |start, rest|
             ensures { Gives seen result (reading.expr_at src.entry.now below start rest.now) }
-        {
-            expr_at(alloc, src, below, start, rest)
-        },
+        { expr_at(alloc, src, below, start, rest) },
         |naming, rest|
             ensures { Gives seen result (reading.declarator_at src.entry.now below naming rest.now) }
-        {
-            declarator_at(alloc, src, below, naming, rest)
-        },
+        { declarator_at(alloc, src, below, naming, rest) },
     );
     grammar.declarator_line(naming, tokens)
 }

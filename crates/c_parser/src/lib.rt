@@ -15,11 +15,11 @@ mod leaf;
 mod nesting;
 mod parser;
 mod refusal;
+#[cfg(test)]
+mod refusals;
 mod source;
 mod start;
 mod statement;
-#[cfg(test)]
-mod refusals;
 #[cfg(test)]
 mod tests;
 mod tokens;
@@ -27,7 +27,9 @@ mod unit;
 
 pub use fault::Fault;
 pub use hub::{declarator_at, expr_at};
-pub use law::{one_expression, one_refusal, one_unit, refusal_excludes_unit, refused_front_begins_unit};
+pub use law::{
+    one_expression, one_refusal, one_unit, refusal_excludes_unit, refused_front_begins_unit,
+};
 pub use parser::parse;
 pub use refusal::ParseRefusal;
 pub use start::{Naming, Start};

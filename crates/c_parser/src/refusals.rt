@@ -104,7 +104,10 @@ pub const PARAMS: [(&[u8], ParseRefusal); 7] = [
     (b"int f(int a, 5);", Expected(13)),
     (b"int f(int;", Expected(9)),
     (b"int f(int a int b);", Expected(12)),
-    (b"int f(register int a);", LeftOut(6, TokenKind::Keyword(19))),
+    (
+        b"int f(register int a);",
+        LeftOut(6, TokenKind::Keyword(19)),
+    ),
 ];
 
 /// What is no `param`.
@@ -162,7 +165,10 @@ pub const BLOCK: [(&[u8], ParseRefusal); 10] = [
     (b"int f(void){{}}}", Expected(15)),
     (b"int f(void){int a}", Expected(17)),
     (b"int f(void){int a = 1}", Expected(21)),
-    (b"int f(void){float x;}", LeftOut(12, TokenKind::Keyword(12))),
+    (
+        b"int f(void){float x;}",
+        LeftOut(12, TokenKind::Keyword(12)),
+    ),
     (b"int f(void){]}", Expected(12)),
 ];
 
@@ -202,9 +208,18 @@ pub const STMT: [(&[u8], ParseRefusal); 40] = [
     (b"int f(void){continue}", Expected(20)),
     (b"int f(void){continue 1;}", Expected(21)),
     (b"int f(void){goto x;}", LeftOut(12, TokenKind::Keyword(14))),
-    (b"int f(void){switch (1) {}}", LeftOut(12, TokenKind::Keyword(27))),
-    (b"int f(void){case 1: ;}", LeftOut(12, TokenKind::Keyword(2))),
-    (b"int f(void){default: ;}", LeftOut(12, TokenKind::Keyword(6))),
+    (
+        b"int f(void){switch (1) {}}",
+        LeftOut(12, TokenKind::Keyword(27)),
+    ),
+    (
+        b"int f(void){case 1: ;}",
+        LeftOut(12, TokenKind::Keyword(2)),
+    ),
+    (
+        b"int f(void){default: ;}",
+        LeftOut(12, TokenKind::Keyword(6)),
+    ),
     (b"int f(void){x: ;}", Expected(13)),
     (b"int f(void){if (1) int a;}", Expected(19)),
     (b"int f(void){while (1) int a;}", Expected(22)),
@@ -267,7 +282,10 @@ pub const CAST: [(&[u8], ParseRefusal); 8] = [
     (b"int f(void){(int)(;}", Expected(18)),
     (b"int f(void){(int 1;}", Expected(17)),
     (b"int f(void){(int)int;}", Expected(17)),
-    (b"int f(void){(long)1;}", LeftOut(13, TokenKind::Keyword(18))),
+    (
+        b"int f(void){(long)1;}",
+        LeftOut(13, TokenKind::Keyword(18)),
+    ),
     (b"int f(void){(int)(int);}", Expected(22)),
     (b"int f(void){(1)2;}", Expected(15)),
     (b"int f(void){(int){1};}", Expected(17)),
@@ -277,7 +295,10 @@ pub const CAST: [(&[u8], ParseRefusal); 8] = [
 pub const TYPENAME: [(&[u8], ParseRefusal); 5] = [
     (b"int f(void){sizeof(int;}", Expected(22)),
     (b"int f(void){sizeof(int*;}", Expected(23)),
-    (b"int f(void){(float)1;}", LeftOut(13, TokenKind::Keyword(12))),
+    (
+        b"int f(void){(float)1;}",
+        LeftOut(13, TokenKind::Keyword(12)),
+    ),
     (b"int f(void){(int,int)1;}", Expected(16)),
     (b"int f(void){(const 1)1;}", Expected(19)),
 ];
@@ -326,7 +347,9 @@ pub const PRIMARY: [(&[u8], ParseRefusal); 12] = [
     (b"int f(void){...;}", LeftOut(12, TokenKind::Punct(33))),
     (b"int f(void){(1,);}", Expected(15)),
     (b"int f(void){\"a\" \"b\" c;}", Expected(20)),
-    (b"int f(void){_Generic(1);}", LeftOut(12, TokenKind::Keyword(39))),
+    (
+        b"int f(void){_Generic(1);}",
+        LeftOut(12, TokenKind::Keyword(39)),
+    ),
     (b"int f(void){[1];}", Expected(12)),
 ];
-

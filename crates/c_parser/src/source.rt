@@ -8,7 +8,9 @@ ghost use Rattle.c_parser.specs.UnitParts as parts;
 ghost use Rattle.c_parser.specs.Outcome.{Gives, seen};
 ghost use Rattle.c_parser.specs.UnitOutcome.{at_source};
 
-use crate::codes::{CLOSE_BRACE, COMMA, EQUALS, OPEN_BRACE, OPEN_PAREN, SEMICOLON, CLOSE_PAREN, SPECIFIER_WORDS};
+use crate::codes::{
+    CLOSE_BRACE, CLOSE_PAREN, COMMA, EQUALS, OPEN_BRACE, OPEN_PAREN, SEMICOLON, SPECIFIER_WORDS,
+};
 use crate::declarator::{first_line, specifiers};
 use crate::fault::{Fault, Read};
 use crate::hub::{declarator_at, expr_at};
@@ -125,7 +127,13 @@ impl<'s> Source<'s> {
     {
         let (declarator, rest) = self.declarator(tokens)?;
         let (initializer, rest) = self.given(rest)?;
-        Ok((Item { declarator, initializer }, rest))
+        Ok((
+            Item {
+                declarator,
+                initializer,
+            },
+            rest,
+        ))
     }
 
     /// An item behind a comma.
@@ -185,12 +193,20 @@ impl<'s> Source<'s> {
     }
 
     /// The rest of a declaration behind its specifiers and its first declarator.
-    pub fn other_items<'t>(&self, specifiers: Items<Specifier>, declarator: Declarator, tokens: &'t [Token]) -> Read<'t, Declaration>
+    pub fn other_items<'t>(
+        &self,
+        specifiers: Items<Specifier>,
+        declarator: Declarator,
+        tokens: &'t [Token],
+    ) -> Read<'t, Declaration>
         ensures { Gives seen result (at_source parts.other_items self.now.src.now self.now.depth self.now.depth specifiers declarator tokens.now) }
     {
         let (initializer, rest) = self.given(tokens)?;
         let mut items = Items::new(self.alloc);
-        items.push(Item { declarator, initializer })?;
+        items.push(Item {
+            declarator,
+            initializer,
+        })?;
         let (items, rest) = self.further_items(items, rest)?;
         let line = first_line(&specifiers);
         let declaration = Declaration {

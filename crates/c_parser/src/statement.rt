@@ -9,8 +9,8 @@ ghost use Rattle.c_parser.specs.Outcome.{Gives, seen};
 ghost use Rattle.c_parser.specs.UnitOutcome.{at_statement, at_source, LeadsToStatement};
 
 use crate::codes::{
-    BREAK, CLOSE_BRACE, CLOSE_PAREN, CONTINUE, DO, ELSE, FOR, IF, OPEN_BRACE, OPEN_PAREN, RETURN, SEMICOLON,
-    SPECIFIER_WORDS, WHILE, code,
+    BREAK, CLOSE_BRACE, CLOSE_PAREN, CONTINUE, DO, ELSE, FOR, IF, OPEN_BRACE, OPEN_PAREN, RETURN,
+    SEMICOLON, SPECIFIER_WORDS, WHILE, code,
 };
 use crate::fault::{Fault, Read};
 use crate::source::Source;
@@ -132,7 +132,13 @@ where
 
     /// What follows the first branch of an `if` statement, with what stands before.
     #[tactic(auto, unfolding(crate::specs::StatementNodes::stmt_at))]
-    fn if_second<'t>(&self, line: u32, condition: Expr, first: Boxed<Stmt>, tokens: &'t [Token]) -> Read<'t, Stmt>
+    fn if_second<'t>(
+        &self,
+        line: u32,
+        condition: Expr,
+        first: Boxed<Stmt>,
+        tokens: &'t [Token],
+    ) -> Read<'t, Stmt>
         requires { LeadsToStatement S.Fn self.now.stmt self.now.source.src.now self.now.source.depth self.now.left }
         ensures { Gives seen result (at_statement loop_parts.if_second self.now.source.src.now self.now.source.depth self.now.left line condition first tokens.now) }
     {
@@ -196,7 +202,13 @@ where
 
     /// The step of a `for` statement, the `)` and the body, with what stands before.
     #[tactic(auto, unfolding(crate::specs::StatementNodes::stmt_at))]
-    fn for_step<'t>(&self, line: u32, start: ForStart, condition: Option<Expr>, tokens: &'t [Token]) -> Read<'t, Stmt>
+    fn for_step<'t>(
+        &self,
+        line: u32,
+        start: ForStart,
+        condition: Option<Expr>,
+        tokens: &'t [Token],
+    ) -> Read<'t, Stmt>
         requires { LeadsToStatement S.Fn self.now.stmt self.now.source.src.now self.now.source.depth self.now.left }
         ensures { Gives seen result (at_statement loop_parts.for_step self.now.source.src.now self.now.source.depth self.now.left line start condition tokens.now) }
     {

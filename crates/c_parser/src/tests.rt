@@ -17,7 +17,13 @@ fn read(rt: &impl Abort, alloc: Global, src: &[u8]) -> Result<Unit, ParseRefusal
 }
 
 /// A part so many times between two others.
-fn repeated(alloc: Global, front: &[u8], part: &[u8], times: usize, back: &[u8]) -> Result<Vec<u8>, AllocError> {
+fn repeated(
+    alloc: Global,
+    front: &[u8],
+    part: &[u8],
+    times: usize,
+    back: &[u8],
+) -> Result<Vec<u8>, AllocError> {
     let mut src = Vec::from_slice(alloc, front)?;
     for _time in 0..times {
         src.extend_from_slice(part)?;
@@ -134,7 +140,8 @@ fn brackets_within_the_limit_are_read(rt: HostRuntime) -> Result<(), Fail> {
 }
 
 /// A source with each line of the grammar.
-const WHOLE: &[u8] = b"static const int g[2] = {1, {2}}, *h; extern void q(int (*p)(int, char []), unsigned, int *const); int f(int n, int) { int a = 'x', b[3]; for (int i = 0; i < n; i++) { if (a) ; else b[i] = -a; while (a--) continue; do break; while (!a); } for (;;) return; a = (int)b[1] ? sizeof(char *[2]) + sizeof a : ~(a, n); a <<= q(\"s\" \"t\", 1), (int (*)(void))&h; return a * b[0] % 3 - 1 << 2 < 4 == 5 & 6 ^ 7 | 8 && 9 || 0; }";
+const WHOLE: &[u8] =
+    b"static const int g[2] = {1, {2}}, *h; extern void q(int (*p)(int, char []), unsigned, int *const); int f(int n, int) { int a = 'x', b[3]; for (int i = 0; i < n; i++) { if (a) ; else b[i] = -a; while (a--) continue; do break; while (!a); } for (;;) return; a = (int)b[1] ? sizeof(char *[2]) + sizeof a : ~(a, n); a <<= q(\"s\" \"t\", 1), (int (*)(void))&h; return a * b[0] % 3 - 1 << 2 < 4 == 5 & 6 ^ 7 | 8 && 9 || 0; }";
 
 /// The prefixes of the source that are units.
 const UNITS: [usize; 6] = [0, 37, 38, 98, 99, 414];

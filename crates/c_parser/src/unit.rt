@@ -29,11 +29,13 @@ pub fn statement_at<'t>(source: Source<'_>, left: usize, tokens: &'t [Token]) ->
         return Err(Fault::Refused(tokens.len()));
     }
     let below = left - 1;
-    let statements = Statements::new(source, below, |rest|
-        ensures { Gives seen result (statement_of source.entry.src.now source.entry.depth below rest.now) }
-    {
-        statement_at(source, below, rest)
-    });
+    let statements = Statements::new(
+        source,
+        below,
+        |rest|
+            ensures { Gives seen result (statement_of source.entry.src.now source.entry.depth below rest.now) }
+        { statement_at(source, below, rest) },
+    );
     statements.statement(tokens)
 }
 
@@ -41,17 +43,24 @@ pub fn statement_at<'t>(source: Source<'_>, left: usize, tokens: &'t [Token]) ->
 fn body<'t>(source: Source<'_>, tokens: &'t [Token]) -> Read<'t, Block>
     ensures { Gives seen result (at_statement units.block source.entry.src.now source.entry.depth source.entry.depth tokens.now) }
 {
-    let statements = Statements::new(source, source.depth, |rest|
-        ensures { Gives seen result (statement_of source.entry.src.now source.entry.depth source.entry.depth rest.now) }
-    {
-        statement_at(source, source.depth, rest)
-    });
+    let statements = Statements::new(
+        source,
+        source.depth,
+        |rest|
+            ensures { Gives seen result (statement_of source.entry.src.now source.entry.depth source.entry.depth rest.now) }
+        { statement_at(source, source.depth, rest) },
+    );
     statements.block(tokens)
 }
 
 /// A function behind its specifiers and its declarator (C11 6.9.1).
 #[tactic(auto, unfolding(crate::specs::ReadingUnits::function_body))]
-fn function<'t>(source: Source<'_>, specifiers: Items<Specifier>, declarator: Declarator, tokens: &'t [Token]) -> Read<'t, External>
+fn function<'t>(
+    source: Source<'_>,
+    specifiers: Items<Specifier>,
+    declarator: Declarator,
+    tokens: &'t [Token],
+) -> Read<'t, External>
     ensures { Gives seen result (at_source units.function_body source.entry.src.now source.entry.depth source.entry.depth specifiers declarator tokens.now) }
 {
     let (body, rest) = body(source, tokens)?;
@@ -61,7 +70,12 @@ fn function<'t>(source: Source<'_>, specifiers: Items<Specifier>, declarator: De
 
 /// Declarations behind their specifiers and their first declarator.
 #[tactic(auto, unfolding(crate::specs::ReadingUnits::other_items))]
-fn other<'t>(source: Source<'_>, specifiers: Items<Specifier>, declarator: Declarator, tokens: &'t [Token]) -> Read<'t, External>
+fn other<'t>(
+    source: Source<'_>,
+    specifiers: Items<Specifier>,
+    declarator: Declarator,
+    tokens: &'t [Token],
+) -> Read<'t, External>
     ensures { Gives seen result (at_source units.other_items source.entry.src.now source.entry.depth source.entry.depth specifiers declarator tokens.now) }
 {
     let (declaration, rest) = source.other_items(specifiers, declarator, tokens)?;
@@ -74,7 +88,13 @@ fn external<'t>(source: Source<'_>, tokens: &'t [Token]) -> Read<'t, External>
     ensures { Gives seen result (at_source units.external source.entry.src.now source.entry.depth source.entry.depth tokens.now) }
 {
     let (specifiers, rest) = specifiers(source.alloc, tokens)?;
-    let (declarator, rest) = declarator_at(source.alloc, source.src, source.depth, Naming::Named, rest)?;
+    let (declarator, rest) = declarator_at(
+        source.alloc,
+        source.src,
+        source.depth,
+        Naming::Named,
+        rest,
+    )?;
     if begins(&[OPEN_BRACE], rest) {
         function(source, specifiers, declarator, rest)
     } else {

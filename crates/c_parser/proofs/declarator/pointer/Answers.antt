@@ -11,5 +11,5 @@ use Rattle.c_parser.proofs.declarator.pointer.Goals as goal
 pub loop-turn-preserved : goal.loop-turn-preserved
 loop-turn-preserved c =
     grown_turn (begins (kinds qualifiers)) (λ p q. qualified p q.1) (reading.sign qualifiers) _ _ _ _ _ _ _
-        (omega arith) (search rules) c.in_ok-_line.ensures c.qualified-pointer.ensures
+    (omega arith) (search rules) c.in_ok-_line.ensures c.qualified-pointer.ensures
     ∙ c.loop-turn.invariant

@@ -11,5 +11,5 @@ use Rattle.c_parser.proofs.declarator.pointers.Goals as goal
 pub loop-turn-preserved : goal.loop-turn-preserved
 loop-turn-preserved c =
     grown_turn (begins (star ∷ [])) push reading.pointer _ _ _ _ _ _ _
-        (omega arith) (search rules) c.in_ok-next.ensures c.in_ok-push.ensures.ok
+    (omega arith) (search rules) c.in_ok-next.ensures c.in_ok-push.ensures.ok
     ∙ c.loop-turn.invariant

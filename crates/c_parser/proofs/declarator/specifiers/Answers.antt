@@ -11,5 +11,5 @@ use Rattle.c_parser.proofs.declarator.specifiers.Goals as goal
 pub loop-turn-preserved : goal.loop-turn-preserved
 loop-turn-preserved c =
     grown_turn (begins specifier_starts) push reading.specifier _ _ _ _ _ _ _
-        (omega arith) (search rules) c.in_ok-word.ensures c.in_ok-push-2.ensures.ok
+    (omega arith) (search rules) c.in_ok-word.ensures c.in_ok-push-2.ensures.ok
     ∙ c.loop-turn.invariant

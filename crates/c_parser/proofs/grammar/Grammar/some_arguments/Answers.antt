@@ -12,5 +12,5 @@ use Rattle.c_parser.proofs.grammar.Grammar.some_arguments.Goals as goal
 pub loop-turn-preserved : goal.loop-turn-preserved
 loop-turn-preserved g c =
     grown_turn (begins (comma ∷ [])) push (reading.behind_comma (reading.expr_at c.args.self.now.src.now c.args.self.now.depth start.Assignment)) _ _ _ _ _ _ _
-        (omega arith) (search rules) c.in_ok-next.ensures c.in_ok-push-2.ensures.ok
+    (omega arith) (search rules) c.in_ok-next.ensures c.in_ok-push-2.ensures.ok
     ∙ c.loop-turn.invariant

@@ -11,5 +11,5 @@ use Rattle.c_parser.proofs.source.Source.+initializer.Goals as goal
 pub initializers-loop-turn-preserved : goal.initializers-loop-turn-preserved
 initializers-loop-turn-preserved t c =
     grown_turn (begins (comma ∷ [])) push (reading.behind_comma (at_source units.initializer_at c.args.self.now.src.now c.args.self.now.depth c.args.left)) _ _ _ _ _ _ _
-        (omega arith) (search rules) c.in_ok-next.ensures c.in_ok-push-2.ensures.ok
+    (omega arith) (search rules) c.in_ok-next.ensures c.in_ok-push-2.ensures.ok
     ∙ c.loop-turn.invariant
