@@ -2,6 +2,7 @@ ghost use Rattle.std.specs.Prelude.{◌≡◌, ℕ, ◌+◌, ◌-◌, ◌^◌, �
 ghost use Rattle.srmt_base.specs.Memory.{part_if};
 ghost use Rattle.mid_code.specs.Fits.{open_count};
 ghost use Rattle.mid_code.specs.Machine.{Goes, activations, budget_of, with_budget, passed, moved_to, given, given_object, passed_close, entered, leaves, register};
+ghost use Rattle.mid_run.specs.Outside.{entered_outside, IsLeftOutside, taken};
 ghost use Rattle.mid_run.specs.Kept.{newest_number, fresh, left_of, TakesResult};
 
 use std::alloc::{AllocError, Global};
@@ -328,6 +329,90 @@ impl Frames {
                 depth: left.depth + 1,
             },
         );
+    }
+
+    /// How many activations are below the newest.
+    pub(crate) fn height(&self) -> usize
+        ensures { result ≡ length self.now.machine.below }
+    {
+        self.below.len()
+    }
+
+    /// Begins a function above an activation that stays as it is. It has `count` registers, and the
+    /// values go into its first ones.
+    pub(crate) fn enter_from_outside(
+        &mut self,
+        protected: bool,
+        function: u16,
+        count: u16,
+        values: &[u64],
+    )
+        requires turns { 1 ≤ (budget_of (part_if protected) self.old.machine).turns }
+        requires depth { 1 ≤ (budget_of (part_if protected) self.old.machine).depth }
+        requires count { count ≤ 1024 }
+        requires few { length values.now ≤ count }
+        requires small { All (λ v. v < 2 ^ 44) values.now }
+        ensures { self.new ≡ record self.old { machine = entered_outside (part_if protected) (fresh function count 0 values.now) self.old.machine } }
+    {
+        let left = self.budgets.of(protected);
+        self.budgets = self.budgets.with(
+            protected,
+            Left {
+                turns: left.turns - 1,
+                depth: left.depth - 1,
+            },
+        );
+        let Ok(()) = self.below.push(self.top) else {
+            unreachable!();
+        };
+        let base = self.registers.len();
+        let Ok(()) = self.registers.extend_from_slice(values) else {
+            unreachable!();
+        };
+        let Ok(()) = self.registers.resize(base + usize::from(count), 0) else {
+            unreachable!();
+        };
+        self.top = Line {
+            function,
+            into: 0,
+            count,
+            place: 0,
+            base: base as u32,
+            floor: self.objects.len() as u32,
+            held: 0,
+        };
+    }
+
+    /// Leaves the newest activation, whose result goes to the outside.
+    pub(crate) fn leave_to_outside(&mut self, protected: bool)
+        requires { 1 ≤ length self.old.machine.below }
+        ensures goes { IsLeftOutside (part_if protected) self.old.machine.below self.old.machine self.new.machine }
+        ensures room { self.new.room ≡ self.old.room }
+    {
+        self.registers.truncate(self.top.base as usize);
+        self.objects.truncate(self.top.floor as usize);
+        let Some(caller) = self.below.pop() else {
+            unreachable!();
+        };
+        self.top = caller;
+        let left = self.budgets.of(protected);
+        self.budgets = self.budgets.with(
+            protected,
+            Left {
+                turns: left.turns,
+                depth: left.depth + 1,
+            },
+        );
+    }
+
+    /// A register of the newest activation takes a value.
+    pub(crate) fn take(&mut self, register: u16, value: u64)
+        requires register { register < length self.old.machine.top.registers }
+        requires small { value < 2 ^ 44 }
+        ensures { self.new ≡ record self.old { machine = taken register value self.old.machine } }
+    {
+        let at = self.top.base as usize + usize::from(register);
+        self.registers[at] = value;
     }
 }
 
