@@ -5,3 +5,4 @@ pub mod Acts
 pub mod Reaching
 pub mod Statics
 pub mod Outside
+pub mod Binary
