@@ -1,13 +1,12 @@
-ghost use Rattle.std.specs.Prelude.{◌≡◌, ℕ, ◌++◌, map, not, nat_le, slice_get};
+ghost use Rattle.std.specs.Prelude.{◌≡◌, ℕ, ◌++◌, Option, map, not, nat_le, slice_get};
 ghost use Rattle.std.specs.List.{list_any};
+ghost use Rattle.std.specs.Option.{option_to_list};
 ghost use Rattle.mid_code.specs.declared.program.RegisterKind.{RegisterKind};
-ghost use Rattle.mid_code.specs.Registers.{registers_list};
-ghost use Rattle.mid_code.specs.Operands.{operands, either, number, address};
-ghost use Rattle.mid_code.specs.Rules.{same_kind, is_of_kind, is_of_other_kind, has_outside, has_other_kind};
+ghost use Rattle.mid_code.specs.Operands.{operands, either, number, address, target_of, first_source, second_source, named, passed_by};
+ghost use Rattle.mid_code.specs.Rules.{same_kind, is_of_kind, has_outside, has_other_kind};
 
 use crate::mid::Mid;
 use crate::program::RegisterKind;
-use crate::registers::Registers;
 
 /// A register that an instruction names, and the kind that it must have, or `None` where either
 /// will do.
@@ -81,40 +80,109 @@ pub fn is_of_kind(kinds: &[RegisterKind], register: u16, kind: RegisterKind) -> 
     }
 }
 
-fn is_outside(kinds: &[RegisterKind], operands: &[Operand]) -> bool
-    ensures { result ≡ has_outside kinds.now operands.now }
+/// The register that an instruction sets.
+fn target_of(mid: &Mid) -> Option<Operand>
+    ensures { result ≡ target_of mid.now }
 {
-    let count = kinds.len();
-    operands
-        .iter()
-        .any(|operand| count <= usize::from(operand.register))
+    match mid {
+        Mid::Const { target, .. }
+        | Mid::Move { target, .. }
+        | Mid::Load { target, .. }
+        | Mid::VLoad { target, .. }
+        | Mid::Call { target, .. }
+        | Mid::CallPtr { target, .. } => Some(Operand::either(*target)),
+        Mid::Arith { target, .. }
+        | Mid::Conv { target, .. }
+        | Mid::PtrDiff { target, .. }
+        | Mid::PtrCmp { target, .. }
+        | Mid::FunAddr { target, .. }
+        | Mid::Get { target } => Some(Operand::number(*target)),
+        Mid::PtrAdd { target, .. } | Mid::GlobAddr { target, .. } | Mid::Open { target, .. } => {
+            Some(Operand::address(*target))
+        }
+        _ => None,
+    }
 }
 
-fn is_of_other_kind(kinds: &[RegisterKind], operand: Operand) -> bool
-    ensures { result ≡ is_of_other_kind (slice_get kinds.now operand.register) operand.kind }
+/// The first register that an instruction reads, but for those that it passes.
+fn first_source(mid: &Mid) -> Option<Operand>
+    ensures { result ≡ first_source mid.now }
 {
-    match operand.kind {
-        Some(kind) => !is_of_kind(kinds, operand.register, kind),
+    match mid {
+        Mid::Move { source, .. }
+        | Mid::JumpZ { source, .. }
+        | Mid::JumpN { source, .. }
+        | Mid::Return { source } => Some(Operand::either(*source)),
+        Mid::Arith { left: source, .. }
+        | Mid::Conv { source, .. }
+        | Mid::CallPtr { callee: source, .. }
+        | Mid::Put { source }
+        | Mid::Exit { source } => Some(Operand::number(*source)),
+        Mid::PtrAdd { pointer, .. }
+        | Mid::PtrDiff { left: pointer, .. }
+        | Mid::PtrCmp { left: pointer, .. }
+        | Mid::Load { pointer, .. }
+        | Mid::Store { pointer, .. }
+        | Mid::VLoad { pointer, .. }
+        | Mid::VStore { pointer, .. } => Some(Operand::address(*pointer)),
+        _ => None,
+    }
+}
+
+/// The second register that an instruction reads, but for those that it passes.
+fn second_source(mid: &Mid) -> Option<Operand>
+    ensures { result ≡ second_source mid.now }
+{
+    match mid {
+        Mid::Arith { right, .. } | Mid::PtrAdd { index: right, .. } => {
+            Some(Operand::number(*right))
+        }
+        Mid::PtrDiff { right, .. } | Mid::PtrCmp { right, .. } => Some(Operand::address(*right)),
+        Mid::Store { source, .. } | Mid::VStore { source, .. } => Some(Operand::either(*source)),
+        _ => None,
+    }
+}
+
+/// The registers that an instruction names, in order, but for those that it passes.
+fn own_operands(mid: &Mid) -> [Option<Operand>; 3]
+    ensures { named result ++ map either (passed_by mid.now) ≡ operands mid.now }
+{
+    [target_of(mid), first_source(mid), second_source(mid)]
+}
+
+fn is_outside(kinds: &[RegisterKind], operand: Option<Operand>) -> bool
+    ensures { result ≡ has_outside kinds.now (option_to_list operand) }
+{
+    match operand {
+        Some(found) => kinds.len() <= usize::from(found.register),
         None => false,
     }
 }
 
-fn has_other_kind(kinds: &[RegisterKind], operands: &[Operand]) -> bool
-    ensures { result ≡ has_other_kind kinds.now operands.now }
+fn is_of_other_kind(kinds: &[RegisterKind], operand: Option<Operand>) -> bool
+    ensures { result ≡ has_other_kind kinds.now (option_to_list operand) }
+{
+    match operand {
+        Some(found) => match found.kind {
+            Some(kind) => !is_of_kind(kinds, found.register, kind),
+            None => false,
+        },
+        None => false,
+    }
+}
+
+fn has_outside(kinds: &[RegisterKind], operands: &[Option<Operand>]) -> bool
+    ensures { result ≡ list_any (λ operand. has_outside kinds.now (option_to_list operand)) operands.now }
+{
+    operands.iter().any(|operand| is_outside(kinds, *operand))
+}
+
+fn has_other_kind(kinds: &[RegisterKind], operands: &[Option<Operand>]) -> bool
+    ensures { result ≡ list_any (λ operand. has_other_kind kinds.now (option_to_list operand)) operands.now }
 {
     operands
         .iter()
         .any(|operand| is_of_other_kind(kinds, *operand))
-}
-
-fn faults_of(kinds: &[RegisterKind], operands: &[Operand]) -> OperandFaults
-    ensures outside { result.outside ≡ has_outside kinds.now operands.now }
-    ensures other_kind { result.other_kind ≡ has_other_kind kinds.now operands.now }
-{
-    OperandFaults {
-        outside: is_outside(kinds, operands),
-        other_kind: has_other_kind(kinds, operands),
-    }
 }
 
 fn is_any_past(registers: &[u16], count: usize) -> bool
@@ -125,23 +193,15 @@ fn is_any_past(registers: &[u16], count: usize) -> bool
         .any(|register| count <= usize::from(*register))
 }
 
-/// Whether a register that is passed, of either kind, is not one of the function's.
-fn passes_outside(kinds: &[RegisterKind], args: &Registers) -> bool
-    ensures { result ≡ has_outside kinds.now (map either (registers_list args.now)) }
+/// Whether a register that an instruction passes, of either kind, is not one of the function's.
+fn passes_outside(kinds: &[RegisterKind], mid: &Mid) -> bool
+    ensures { result ≡ has_outside kinds.now (map either (passed_by mid.now)) }
 {
-    is_any_past(args.as_slice(), kinds.len())
-}
-
-/// The faults of a call: of the operands that are its own, and of the registers that it passes.
-fn faults_of_call(kinds: &[RegisterKind], own: &[Operand], args: &Registers) -> OperandFaults
-    ensures outside { result.outside ≡ has_outside kinds.now (own.now ++ map either (registers_list args.now)) }
-    ensures other_kind { result.other_kind ≡ has_other_kind kinds.now (own.now ++ map either (registers_list args.now)) }
-{
-    let own = faults_of(kinds, own);
-    let passed = passes_outside(kinds, args);
-    OperandFaults {
-        outside: own.outside || passed,
-        other_kind: own.other_kind,
+    match mid {
+        Mid::Call { args, .. } | Mid::CallPtr { args, .. } => {
+            is_any_past(args.as_slice(), kinds.len())
+        }
+        _ => false,
     }
 }
 
@@ -150,114 +210,11 @@ pub fn operand_faults(kinds: &[RegisterKind], mid: &Mid) -> OperandFaults
     ensures outside { result.outside ≡ has_outside kinds.now (operands mid.now) }
     ensures other_kind { result.other_kind ≡ has_other_kind kinds.now (operands mid.now) }
 {
-    match mid {
-        Mid::Const { target, .. } => faults_of(kinds, &[Operand::either(*target)]),
-        Mid::Move { target, source } => {
-            faults_of(kinds, &[Operand::either(*target), Operand::either(*source)])
-        }
-        Mid::Arith {
-            target,
-            left,
-            right,
-            ..
-        } => faults_of(
-            kinds,
-            &[
-                Operand::number(*target),
-                Operand::number(*left),
-                Operand::number(*right),
-            ],
-        ),
-        Mid::Conv { target, source, .. } => {
-            faults_of(kinds, &[Operand::number(*target), Operand::number(*source)])
-        }
-        Mid::PtrAdd {
-            target,
-            pointer,
-            index,
-            ..
-        } => faults_of(
-            kinds,
-            &[
-                Operand::address(*target),
-                Operand::address(*pointer),
-                Operand::number(*index),
-            ],
-        ),
-        Mid::PtrDiff {
-            target,
-            left,
-            right,
-            ..
-        } => faults_of(
-            kinds,
-            &[
-                Operand::number(*target),
-                Operand::address(*left),
-                Operand::address(*right),
-            ],
-        ),
-        Mid::PtrCmp {
-            target,
-            left,
-            right,
-            ..
-        } => faults_of(
-            kinds,
-            &[
-                Operand::number(*target),
-                Operand::address(*left),
-                Operand::address(*right),
-            ],
-        ),
-        Mid::GlobAddr { target, .. } => faults_of(kinds, &[Operand::address(*target)]),
-        Mid::FunAddr { target, .. } => faults_of(kinds, &[Operand::number(*target)]),
-        Mid::Load { target, pointer } => {
-            faults_of(
-                kinds,
-                &[Operand::either(*target), Operand::address(*pointer)],
-            )
-        }
-        Mid::Store { pointer, source } => {
-            faults_of(
-                kinds,
-                &[Operand::address(*pointer), Operand::either(*source)],
-            )
-        }
-        Mid::VLoad { target, pointer } => {
-            faults_of(
-                kinds,
-                &[Operand::either(*target), Operand::address(*pointer)],
-            )
-        }
-        Mid::VStore { pointer, source } => {
-            faults_of(
-                kinds,
-                &[Operand::address(*pointer), Operand::either(*source)],
-            )
-        }
-        Mid::Open { target, .. } => faults_of(kinds, &[Operand::address(*target)]),
-        Mid::Close { .. } => faults_of(kinds, &[]),
-        Mid::Jump { .. } => faults_of(kinds, &[]),
-        Mid::JumpZ { source, .. } => faults_of(kinds, &[Operand::either(*source)]),
-        Mid::JumpN { source, .. } => faults_of(kinds, &[Operand::either(*source)]),
-        Mid::Turn => faults_of(kinds, &[]),
-        Mid::Call { target, args, .. } => {
-            faults_of_call(kinds, &[Operand::either(*target)], args)
-        }
-        Mid::CallPtr {
-            target,
-            callee,
-            args,
-            ..
-        } => faults_of_call(
-            kinds,
-            &[Operand::either(*target), Operand::number(*callee)],
-            args,
-        ),
-        Mid::Return { source } => faults_of(kinds, &[Operand::either(*source)]),
-        Mid::Put { source } => faults_of(kinds, &[Operand::number(*source)]),
-        Mid::Get { target } => faults_of(kinds, &[Operand::number(*target)]),
-        Mid::Exit { source } => faults_of(kinds, &[Operand::number(*source)]),
+    let own = own_operands(mid);
+    let outside = has_outside(kinds, &own);
+    let passed = passes_outside(kinds, mid);
+    OperandFaults {
+        outside: outside || passed,
+        other_kind: has_other_kind(kinds, &own),
     }
 }
