@@ -1,4 +1,4 @@
-ghost use Rattle.std.specs.Prelude.{◌≡◌, ℕ, ◌++◌, Option, map, not, nat_le, slice_get};
+ghost use Rattle.std.specs.Prelude.{◌≡◌, ℕ, ◌++◌, map, not, nat_le, slice_get};
 ghost use Rattle.std.specs.List.{list_any};
 ghost use Rattle.std.specs.Option.{option_to_list};
 ghost use Rattle.mid_code.specs.declared.program.RegisterKind.{RegisterKind};
