@@ -8,7 +8,8 @@ use Rattle.mid_code.specs.declared.program.RegisterKind.{RegisterKind}
 use Rattle.mid_code.specs.declared.operands.Operand.{Operand}
 use Rattle.mid_code.specs.declared.mid.Mid.{Mid}
 use Rattle.mid_code.specs.declared.mid.Mid.TheVariants.{Const, Move, Arith, Conv, PtrAdd, PtrDiff, PtrCmp, GlobAddr, FunAddr, Load, Store, VLoad, VStore, Open, Close, Jump, JumpZ, JumpN, Turn, Call, CallPtr, Return, Put, Get, Exit}
-use Rattle.mid_code.specs.Operands.{operands, either, target_of, first_source, second_source, named, passed_by}
+use Rattle.mid_code.specs.Operands.{operands, either}
+use Rattle.mid_code.specs.OperandRows.{target_of, first_source, second_source, named, passed_by}
 use Rattle.mid_code.specs.Rules.{is_of_other_kind, has_outside, has_other_kind}
 
 pub outside-passed : (kinds : List RegisterKind) (rs : List ℕ) → list_any (λ register. nat_le (length kinds) register) rs ≡ has_outside kinds (map either rs)

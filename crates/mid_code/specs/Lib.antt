@@ -1,6 +1,7 @@
 pub mod Program
 pub mod Registers
 pub mod Operands
+pub mod OperandRows
 pub mod Flow
 pub mod Row
 pub mod Rules

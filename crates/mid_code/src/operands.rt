@@ -2,7 +2,8 @@ ghost use Rattle.std.specs.Prelude.{◌≡◌, ℕ, ◌++◌, map, not, nat_le, 
 ghost use Rattle.std.specs.List.{list_any};
 ghost use Rattle.std.specs.Option.{option_to_list};
 ghost use Rattle.mid_code.specs.declared.program.RegisterKind.{RegisterKind};
-ghost use Rattle.mid_code.specs.Operands.{operands, either, number, address, target_of, first_source, second_source, named, passed_by};
+ghost use Rattle.mid_code.specs.Operands.{operands, either, number, address};
+ghost use Rattle.mid_code.specs.OperandRows.{target_of, first_source, second_source, named, passed_by};
 ghost use Rattle.mid_code.specs.Rules.{same_kind, is_of_kind, has_outside, has_other_kind};
 
 use crate::mid::Mid;

@@ -3,7 +3,8 @@ use Rattle.std.specs.Prelude.{ℕ, List, nat_le, map}
 use Rattle.std.specs.List.{list_any}
 use Rattle.mid_code.specs.Registers.{registers_list}
 use Rattle.mid_code.specs.declared.mid.Mid.{Mid}
-use Rattle.mid_code.specs.Operands.{either, passed_by}
+use Rattle.mid_code.specs.Operands.{either}
+use Rattle.mid_code.specs.OperandRows.{passed_by}
 use Rattle.mid_code.specs.Rules.{has_outside}
 use Rattle.mid_code.proofs.OperandLemmas.{outside-passed}
 use Rattle.mid_code.proofs.operands.passes_outside.Goals as goal
