@@ -1,7 +1,7 @@
 -- Acknowledgements are compared one after another.
-use Rattle.std.proofs.Common.{◌≡◌, ℕ, suc, ◌+◌, ◌<◌, Bool, true, false, List, [], ◌∷◌, ◌++◌, length, map, drop, get_or, ◌≤◌, cond, nat_eq, nat_lt, refl, sym, ap, ◌∙◌, arith, add-one, drop-cons}
+use Rattle.std.proofs.Common.{◌≡◌, ℕ, suc, ◌+◌, ◌<◌, true, false, List, [], ◌∷◌, ◌++◌, length, map, drop, get_or, ◌≤◌, cond, nat_eq, nat_lt, sym, ap, ◌∙◌, arith, add-one, drop-cons}
 use Rattle.std.proofs.lemmas.List.{length-map}
-use Rattle.std.proofs.lemmas.Bool.{le-ltb}
+use Rattle.std.proofs.lemmas.Bool.{le-ltb, not-false, not-true}
 use Rattle.mid_code.specs.Machine.{passed, register}
 use Rattle.std.specs.Prelude.{not}
 use Rattle.std.proofs.Math.ListN.{get_or-map}
@@ -21,23 +21,15 @@ own_at f r args i own within is =
     let value : get_or all i (f (r 0)) ≡ own = get_or-map f (map r args) i (r 0) ∙ ap f (get_or-map r args i 0) ∙ sym is in
     rw add-one (drop-cons all i (f (r 0)) here ∙ ap (λ w. w ∷ drop (suc i) all) value)
 
-not_true : (b : Bool) → not b ≡ true → b ≡ false
-not_true true h = cc
-not_true false h = refl
-
-not_false : (b : Bool) → not b ≡ false → b ≡ true
-not_false true h = refl
-not_false false h = cc
-
 module _ (words own : List ℕ) (s : SideState) (i word mine : ℕ) (at : drop i words ≡ word ∷ drop (i + 1) words) (own_is : drop i own ≡ mine ∷ drop (i + 1) own) where
   judged : compared (drop i words) (drop i own) s ≡ cond (nat_eq word mine) (compared (drop (i + 1) words) (drop (i + 1) own) s) (Ended (Echo word mine))
   judged = ap (λ ws. compared ws (drop i own) s) at ∙ ap (λ os. compared (word ∷ drop (i + 1) words) os s) own_is
 
   pub differs : not (nat_eq word mine) ≡ true → compared (drop i words) (drop i own) s ≡ Ended (Echo word mine)
-  differs h = judged ∙ ap (λ b. cond b (compared (drop (i + 1) words) (drop (i + 1) own) s) (Ended (Echo word mine))) (not_true (nat_eq word mine) h)
+  differs h = judged ∙ ap (λ b. cond b (compared (drop (i + 1) words) (drop (i + 1) own) s) (Ended (Echo word mine))) (not-true (nat_eq word mine) h)
 
   pub agrees : not (nat_eq word mine) ≡ false → compared (drop i words) (drop i own) s ≡ compared (drop (i + 1) words) (drop (i + 1) own) s
-  agrees h = judged ∙ ap (λ b. cond b (compared (drop (i + 1) words) (drop (i + 1) own) s) (Ended (Echo word mine))) (not_false (nat_eq word mine) h)
+  agrees h = judged ∙ ap (λ b. cond b (compared (drop (i + 1) words) (drop (i + 1) own) s) (Ended (Echo word mine))) (not-false (nat_eq word mine) h)
 
 -- where the side stands when all agree depends on its machine alone
 pub compared_same : (words own : List ℕ) (s t : SideState) → s.machine ≡ t.machine → compared words own s ≡ compared words own t

@@ -21,13 +21,14 @@ use Rattle.mid_code.specs.Pairs.{HasSites}
 use Rattle.mid_code.specs.Versions.{version_at}
 use Rattle.mid_code.specs.Machine.{Machine, Goes, act, given, register, spent}
 use Rattle.mid_code.specs.Fits.{IsValue}
-use Rattle.mid_code.specs.Start.{full_budget, main_activation}
+use Rattle.mid_code.specs.Start.{full_budget}
 use Rattle.mid_code.proofs.Values.{one_within, first_registers}
 use Rattle.mid_code.proofs.Fetching.{fetch, group_of}
+use Rattle.world.proofs.Plain.{is_main, with_main}
 use Rattle.machine.specs.Side.{SideState, opening}
 use Rattle.machine.specs.Steps.{versions_of, passed_on}
 use Rattle.machine.specs.Fits.{HeardFits, SideFits}
-use Rattle.machine.proofs.FirstForm.{AreFit, is_main, first_function_at}
+use Rattle.machine.proofs.FirstForm.{AreFit, first_function}
 use Rattle.machine.proofs.Groups.{IsLast, OpFits, ops_of, group_fits}
 use Rattle.machine.proofs.Placed.{Placed, placed, length-with_line, versions_so}
 
@@ -115,13 +116,10 @@ standing function registers heard limits = record {
 }
 
 -- a side at the start, by the code of `main`
-abbrev with_main : MidProgram → Limits → Option MidFunction → SideState
-with_main program limits f = record {
-  machine = record { top = main_activation program f; below = []; protected = spent (full_budget limits); binary = full_budget limits };
-  heard = [];
-}
+abbrev side_with_main : MidProgram → Limits → Option MidFunction → SideState
+side_with_main program limits f = record { machine = with_main program limits f; heard = [] }
 
-opening_by : (program : MidProgram) (limits : Limits) (f : Option MidFunction) → standing program.main (replicate (register_count f) 0) [] limits ≡ with_main program limits f
+opening_by : (program : MidProgram) (limits : Limits) (f : Option MidFunction) → standing program.main (replicate (register_count f) 0) [] limits ≡ side_with_main program limits f
 opening_by program limits None = refl
 opening_by program limits (Some f) =
     let e : length f.kinds ≡ length f.kinds - 0 = omega arith in
@@ -134,7 +132,7 @@ opening_is program limits = opening_by program limits (function_at program progr
 pub fits_opening : (side : Side) (program : MidProgram) (limits : Limits) → HasSites program → SideFits side program (opening program limits)
 fits_opening side program limits sites =
     let main = is_main program sites.valid in
-    let good = first_function_at program program.main main.function sites main.found main.of_main_file in
+    let good = first_function program program.main main.function sites main.found main.of_main_file in
     let first = one_within main.function.code 0 (omega (arith, good.long)) in
     let site = site_at program program.main 0 (Some main.function) in
     let group = group_of (ops_of side) site first.0 in
@@ -144,7 +142,7 @@ fits_opening side program limits sites =
     ap (λ vs. version_at vs program.main 0) (versions_so side program) ∙ fetch (ops_of side) program program.main main.function 0 first.0 0 main.found main.of_main_file first.1 some ∙ l.1 in
     let stands = placed side program program.main 0 l.0 sites at in
     let registers = first_registers [] (length main.function.kinds) (omega arith) (All-nil IsValue) in
-    let fits : SideFits side program (with_main program limits (Some main.function)) = record {
+    let fits : SideFits side program (side_with_main program limits (Some main.function)) = record {
       function = main.function;
       line = l.0;
       found = main.found;
@@ -153,4 +151,4 @@ fits_opening side program limits sites =
       each = registers.1;
       heard = heard_none side stands.code.kinds l.0.op stands.fits;
     } in
-    subst (λ f. SideFits side program (with_main program limits f)) (sym main.found) fits
+    subst (λ f. SideFits side program (side_with_main program limits f)) (sym main.found) fits

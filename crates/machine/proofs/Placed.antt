@@ -19,8 +19,9 @@ use Rattle.mid_code.specs.Pairs.{HasSites}
 use Rattle.mid_code.specs.Versions.{with_line, version_code, versions_from, version_at}
 use Rattle.mid_code.proofs.Fetching.{get_front, get_behind, group_of}
 use Rattle.mid_code.proofs.Values.{one_within}
+use Rattle.world.proofs.Plain.{protected_found}
 use Rattle.machine.specs.Steps.{versions_of}
-use Rattle.machine.proofs.FirstForm.{AreFit, IsFinal, protected_found, first_function}
+use Rattle.machine.proofs.FirstForm.{AreFit, IsFinal, first_function}
 use Rattle.machine.proofs.Groups.{IsLast, OpFits, GroupFits, each_at, ops_of, group_fits}
 
 -- the instructions of a group, without their line
@@ -159,15 +160,15 @@ pub record Placed (side : Side) (program : MidProgram) (function place : ℕ) (l
 placed_in : (side : Side) (program : MidProgram) (before place : ℕ) (l : VersionLine) (v : Version) → HasSites program → slice_get (versions_of side program) before ≡ Some v → slice_get v.code place ≡ Some l → Placed side program (suc before) place l
 placed_in side program before place l v sites at there =
     let is = version_found program.main_functions (ops_of side) 1 (protected_functions program) before v (ap (λ vs. slice_get vs before) (sym (versions_so side program)) ∙ at) in
-    let found : function_at program (suc before) ≡ Some is.function = protected_found program before is.function is.found in
-    let good = first_function program before is.function sites is.found in
+    let known = protected_found program before is.function is.found in
+    let good = first_function program (suc before) is.function sites known.0 known.1 in
     let fit = all_fit is.function.kinds is.function.code good.each in
     let here : slice_get (version_code program.main_functions (ops_of side) is.site is.function.code) place ≡ Some l = ap (λ c. slice_get c place) (sym is.code_is) ∙ there in
     let stands = stands_in program.main_functions side is.function.kinds is.site is.function.code place l fit (ends_final is.function.code good.last) here in
     let within : place < length (version_code program.main_functions (ops_of side) is.site is.function.code) = slice_get_within (version_code program.main_functions (ops_of side) is.site is.function.code) place l here in
     record {
       code = is.function;
-      found = found;
+      found = known.0;
       fits = stands.0;
       small = omega (arith, within, long_version program.main_functions side is.function.kinds is.site is.function.code fit, good.limit);
       next = λ not_last.

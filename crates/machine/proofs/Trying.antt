@@ -4,8 +4,8 @@ use Rattle.srmt_base.specs.declared.event.Event.{Event}
 use Rattle.srmt_outside.specs.Count.{next_count}
 use Rattle.word_stream.specs.declared.request.Request.{Request}
 use Rattle.word_stream.specs.declared.request.Response.{Response}
-use Rattle.word_stream.specs.declared.request.Response.TheVariants.{Done}
 use Rattle.word_stream.specs.Exchange.{response_words}
+use Rattle.word_stream.proofs.Spelled.{no_words}
 use Rattle.world.specs.World.{WorldState, Asked, stopped}
 use Rattle.machine.specs.declared.link_call.Taken.TheVariants.{Word}
 use Rattle.machine.specs.declared.link_call.LastCall.TheVariants.{Room, Take}
@@ -35,11 +35,6 @@ was_quiet outcome s s' w Made link comes =
 was_quiet outcome s s' w NotYet link comes = absurd comes
 was_quiet outcome s s' w (MadeLast end) link comes =
     record { meet = Plain; can_meet = refl; asks = (refl, refl, refl); outcome_is = comes; world_is = refl; events_are = refl; words = refl }
-
--- no response has words yet
-no_words : (request : Request) (response : Response) → response_words request response ≡ []
-unfolding response_words
-no_words request Done = refl
 
 -- room was there: the link was asked for it alone
 pub record HadRoom (before after : Shown) : Type 0 where
@@ -102,7 +97,7 @@ heard_no_fault : (b : Bool) (words own : List ℕ) (s : SideState) → heard_by 
 heard_no_fault true words own s h = cc
 heard_no_fault false words own s h = compared_no_fault words own s h
 
-awaits_fault : (meet : Meet) (own : List ℕ) (s : SideState) → awaits meet own s ≡ Ended WriteFault → ⊥
+pub awaits_fault : (meet : Meet) (own : List ℕ) (s : SideState) → awaits meet own s ≡ Ended WriteFault → ⊥
 awaits_fault (Got word) own s h = heard_no_fault (nat_lt (length (s.heard ++ word ∷ [])) (length own)) (s.heard ++ word ∷ []) own s h
 awaits_fault Closed own s h = cc
 awaits_fault Plain own s h = cc

@@ -54,57 +54,19 @@ is_over_by (Some end) s = refl
 
 -- the state after a leading step, by the code's fields
 abbrev pub lead_state : Inside → Option ThreadEnd → SideState → WorldState → List ℕ → List ℕ → ℕ → DuoState
-lead_state a end m w words acks count = record {
-  lead = outcome_by end m;
-  trail = outcome_by a.trail_over a.trail;
-  world = w;
-  words = words;
-  acks = acks;
-  lead_steps = a.lead_steps + 1;
-  trail_steps = a.trail_steps;
-  words_sent = a.words_sent + count;
-  acks_sent = a.acks_sent;
-}
+lead_state a end m w words acks count =
+    record (duo_of a) { lead = outcome_by end m; world = w; words = words; acks = acks; lead_steps = a.lead_steps + 1; words_sent = a.words_sent + count }
 
 abbrev pub trail_state : Inside → Option ThreadEnd → SideState → List ℕ → List ℕ → ℕ → DuoState
-trail_state a end m words acks count = record {
-  lead = outcome_by a.lead_over a.lead;
-  trail = outcome_by end m;
-  world = a.world;
-  words = words;
-  acks = acks;
-  lead_steps = a.lead_steps;
-  trail_steps = a.trail_steps + 1;
-  words_sent = a.words_sent;
-  acks_sent = a.acks_sent + count;
-}
+trail_state a end m words acks count =
+    record (duo_of a) { trail = outcome_by end m; words = words; acks = acks; trail_steps = a.trail_steps + 1; acks_sent = a.acks_sent + count }
 
 -- the state after a step that waits, by the code's fields
 abbrev pub stayed_lead : Inside → SideState → WorldState → DuoState
-stayed_lead a m w = record {
-  lead = outcome_by a.lead_over m;
-  trail = outcome_by a.trail_over a.trail;
-  world = w;
-  words = a.words;
-  acks = a.acks;
-  lead_steps = a.lead_steps;
-  trail_steps = a.trail_steps;
-  words_sent = a.words_sent;
-  acks_sent = a.acks_sent;
-}
+stayed_lead a m w = record (duo_of a) { lead = outcome_by a.lead_over m; world = w }
 
 abbrev pub stayed_trail : Inside → SideState → DuoState
-stayed_trail a m = record {
-  lead = outcome_by a.lead_over a.lead;
-  trail = outcome_by a.trail_over m;
-  world = a.world;
-  words = a.words;
-  acks = a.acks;
-  lead_steps = a.lead_steps;
-  trail_steps = a.trail_steps;
-  words_sent = a.words_sent;
-  acks_sent = a.acks_sent;
-}
+stayed_trail a m = record (duo_of a) { trail = outcome_by a.trail_over m }
 
 waited : (stepped : Stepped) → has_waited stepped ≡ true → stepped ≡ NotYet
 waited Made h = absurd (cc)

@@ -5,13 +5,11 @@ use Rattle.srmt_base.specs.declared.side.Side.TheVariants.{Lead, Trail}
 use Rattle.srmt_base.specs.declared.trap.SourceEnd.{SourceEnd}
 use Rattle.srmt_base.specs.declared.trap.SourceEnd.TheVariants.{Exit as SourceExit, Trap as SourceTrap}
 use Rattle.mid_code.specs.declared.program.MidProgram.{MidProgram}
-use Rattle.mid_code.specs.Machine.{Machine}
 use Rattle.mid_code.specs.Pairs.{HasSites}
-use Rattle.word_stream.specs.declared.request.Request.{Request}
-use Rattle.word_stream.specs.Exchange.{checks_of, acks_of}
+use Rattle.word_stream.specs.Exchange.{checks_of}
 use Rattle.world.specs.World.{ask}
 use Rattle.world.specs.Requests.{Wants, Runs, Dies, Requests, Lost, wants}
-use Rattle.world.specs.Ideal.{Here, Ended as PlaceEnded, ideal}
+use Rattle.world.specs.Ideal.{Ended as PlaceEnded, ideal}
 use Rattle.machine.specs.declared.thread_end.ThreadEnd.TheVariants.{PeerEnded, WriteFault}
 use Rattle.machine.specs.Side.{SideState, Went, Ended}
 use Rattle.machine.specs.Steps.{side_op, takes_at, may_send_at}
@@ -19,11 +17,12 @@ use Rattle.pair_core.specs.History.{Past}
 use Rattle.pair_core.specs.Fit.{IsPrefix}
 use Rattle.pair_core.specs.Duo.{is_over}
 use Rattle.pair_core.specs.Laws.{end_as, IsCleanEnd, IsClean}
+use Rattle.pair_core.proofs.Pasts.{same_state}
 use Rattle.pair_core.proofs.Prefixes.{prefix_refl, prefix_take}
 use Rattle.pair_core.proofs.Groups.{next_line, never_dies, never_lost}
 use Rattle.pair_core.proofs.Steps.{lead_runs_takes, trail_runs_takes, trail_runs_sends}
 use Rattle.pair_core.proofs.Exchanges.{checks_some, lead_asks_takes, lead_acts_takes, lead_hears_takes, trail_checks_takes, trail_acks_takes, trail_ends_takes, trail_ends_sends}
-use Rattle.pair_core.proofs.Ideals.{next_asks, stands_point, stands_owed}
+use Rattle.pair_core.proofs.Ideals.{stands_point, stands_owed, asked_words, asked_echoes, asked_events}
 use Rattle.pair_core.proofs.Lead.{LeadAt, LeadStarts, LeadAwaits, LeadActs, LeadEnded, LeadFailed}
 use Rattle.pair_core.proofs.Trail.{TrailAt, TrailStarts, TrailChecks, TrailAcks, TrailEnding, TrailEnded, TrailGone}
 
@@ -41,24 +40,14 @@ not_fault (SourceExit status) h = cc
 not_fault (SourceTrap trap line) h = cc
 
 module _ (program : MidProgram) (input : List ℕ) (limits : Limits) (sites : HasSites program) where
-  -- after a request was checked
-  asked_words : (i : ℕ) (m : Machine) (q : Request) → (ideal program input limits i).place ≡ Here m → wants program m ≡ Requests q → (ideal program input limits (suc i)).words ≡ (ideal program input limits i).words ++ checks_of q
-  asked_words i m q here h = ap (λ d. d.words) (next_asks program (ideal program input limits i) m q here (stands_point program input limits sites i m here) h)
-
-  asked_echoes : (i : ℕ) (m : Machine) (q : Request) → (ideal program input limits i).place ≡ Here m → wants program m ≡ Requests q → (ideal program input limits (suc i)).echoes ≡ (ideal program input limits i).echoes ++ acks_of q
-  asked_echoes i m q here h = ap (λ d. d.echoes) (next_asks program (ideal program input limits i) m q here (stands_point program input limits sites i m here) h)
-
-  asked_events : (i : ℕ) (m : Machine) (q : Request) → (ideal program input limits i).place ≡ Here m → wants program m ≡ Requests q → (ideal program input limits (suc i)).events ≡ (ideal program input limits i).events ++ (ask (ideal program input limits i).world q).events
-  asked_events i m q here h = ap (λ d. d.events) (next_asks program (ideal program input limits i) m q here (stands_point program input limits sites i m here) h)
-
   -- the leading side
   module _ (i : ℕ) (past : Past) where
     pub lead_words : LeadAt program (ideal program input limits i) past → (k : ℕ) × IsPrefix past.sent (ideal program input limits k).words
     lead_words (LeadStarts m here shows) = (i, subst (λ t. IsPrefix t (ideal program input limits i).words) (sym shows.sent_so) (prefix_refl _))
-    lead_words (LeadAwaits m q heard x rest here h acks shows) = (suc i, subst (λ t. IsPrefix t (ideal program input limits (suc i)).words) (asked_words i m q here h ∙ sym shows.sent_so) (prefix_refl _))
-    lead_words (LeadActs m q here h shows) = (suc i, subst (λ t. IsPrefix t (ideal program input limits (suc i)).words) (asked_words i m q here h ∙ sym shows.sent_so) (prefix_refl _))
+    lead_words (LeadAwaits m q heard x rest here h acks shows) = (suc i, subst (λ t. IsPrefix t (ideal program input limits (suc i)).words) (asked_words program input limits sites i m q here h ∙ sym shows.sent_so) (prefix_refl _))
+    lead_words (LeadActs m q here h shows) = (suc i, subst (λ t. IsPrefix t (ideal program input limits (suc i)).words) (asked_words program input limits sites i m q here h ∙ sym shows.sent_so) (prefix_refl _))
     lead_words (LeadEnded end ended shows) = (i, subst (λ t. IsPrefix t (ideal program input limits i).words) (sym shows.sent_so) (prefix_refl _))
-    lead_words (LeadFailed m q written here h shows) = (suc i, subst (λ t. IsPrefix t (ideal program input limits (suc i)).words) (asked_words i m q here h ∙ sym shows.sent_so) (prefix_refl _))
+    lead_words (LeadFailed m q written here h shows) = (suc i, subst (λ t. IsPrefix t (ideal program input limits (suc i)).words) (asked_words program input limits sites i m q here h ∙ sym shows.sent_so) (prefix_refl _))
 
     pub lead_events : LeadAt program (ideal program input limits i) past → (k : ℕ) × IsPrefix past.events (ideal program input limits k).events
     lead_events (LeadStarts m here shows) = (i, subst (λ t. IsPrefix t (ideal program input limits i).events) (sym shows.events_so) (prefix_refl _))
@@ -67,7 +56,7 @@ module _ (program : MidProgram) (input : List ℕ) (limits : Limits) (sites : Ha
     lead_events (LeadEnded end ended shows) = (i, subst (λ t. IsPrefix t (ideal program input limits i).events) (sym shows.events_so) (prefix_refl _))
     lead_events (LeadFailed m q written here h shows) =
         let part = prefix_take (ideal program input limits i).events (ask (ideal program input limits i).world q).events written in
-        (suc i, subst (λ t. IsPrefix past.events t) (sym (asked_events i m q here h)) (subst (λ t. IsPrefix t ((ideal program input limits i).events ++ (ask (ideal program input limits i).world q).events)) (sym shows.events_so) part))
+        (suc i, subst (λ t. IsPrefix past.events t) (sym (asked_events program input limits sites i m q here h)) (subst (λ t. IsPrefix t ((ideal program input limits i).events ++ (ask (ideal program input limits i).world q).events)) (sym shows.events_so) part))
 
     pub lead_clean : LeadAt program (ideal program input limits i) past → IsClean past.at
     lead_clean (LeadStarts m here shows) = subst IsClean (sym shows.at_so) tt
@@ -88,12 +77,9 @@ module _ (program : MidProgram) (input : List ℕ) (limits : Limits) (sites : Ha
     lead_final (LeadAwaits m q heard x rest here h acks shows) over = let no : false ≡ true = sym (ap is_over shows.at_so) ∙ over in absurd (cc)
     lead_final (LeadActs m q here h shows) over = let no : false ≡ true = sym (ap is_over shows.at_so) ∙ over in absurd (cc)
     lead_final (LeadEnded end ended shows) over = (i, shows.sent_so, shows.took_so, inl (end, ended, shows.at_so, shows.events_so))
-    lead_final (LeadFailed m q written here h shows) over = (suc i, shows.sent_so ∙ sym (asked_words i m q here h), shows.took_so ∙ sym (asked_echoes i m q here h), inr shows.at_so)
+    lead_final (LeadFailed m q written here h shows) over = (suc i, shows.sent_so ∙ sym (asked_words program input limits sites i m q here h), shows.took_so ∙ sym (asked_echoes program input limits sites i m q here h), inr shows.at_so)
 
     module _ (s : SideState) (at : past.at ≡ Went s) where
-      lead_known : (s₀ : SideState) → past.at ≡ Went s₀ → s ≡ s₀
-      lead_known s₀ at₀ = let both : Went s ≡ Went s₀ = sym at ∙ at₀ in cc
-
       -- where it takes an acknowledgement, one of its request is still to come
       pub lead_hearing : LeadAt program (ideal program input limits i) past → takes_at (side_op Lead program s) ≡ true →
           (past.sent ≡ (ideal program input limits (suc i)).words) × (length past.took < length (ideal program input limits (suc i)).echoes)
@@ -102,21 +88,21 @@ module _ (program : MidProgram) (input : List ℕ) (limits : Limits) (sites : Ha
           start_takes : (x : Wants) → wants program m ≡ x → ⊥
           start_takes (Runs next) h =
               let stands = stands_point program input limits sites i m here in
-              let no : true ≡ false = sym takes ∙ ap (λ t. takes_at (side_op Lead program t)) (lead_known _ shows.at_so) ∙ lead_runs_takes program m stands (next_line program m stands) next h in cc
+              let no : true ≡ false = sym takes ∙ ap (λ t. takes_at (side_op Lead program t)) (same_state past s _ at shows.at_so) ∙ lead_runs_takes program m stands (next_line program m stands) next h in cc
           start_takes (Dies trap line) h = let stands = stands_point program input limits sites i m here in never_dies program m stands (next_line program m stands) trap line h
           start_takes (Requests q) h =
               let stands = stands_point program input limits sites i m here in
-              let no : true ≡ false = sym takes ∙ ap (λ t. takes_at (side_op Lead program t)) (lead_known _ shows.at_so) ∙ lead_asks_takes program m stands q h in cc
+              let no : true ≡ false = sym takes ∙ ap (λ t. takes_at (side_op Lead program t)) (same_state past s _ at shows.at_so) ∙ lead_asks_takes program m stands q h in cc
           start_takes Lost h = let stands = stands_point program input limits sites i m here in never_lost program m stands (next_line program m stands) h
       lead_hearing (LeadAwaits m q heard x rest here h acks shows) takes =
           let all : (ideal program input limits (suc i)).echoes ≡ ((ideal program input limits i).echoes ++ heard) ++ x ∷ rest =
-          asked_echoes i m q here h ∙ ap (λ t. (ideal program input limits i).echoes ++ t) acks ∙ sym (append_assoc (ideal program input limits i).echoes heard (x ∷ rest)) in (
-            shows.sent_so ∙ sym (asked_words i m q here h),
+          asked_echoes program input limits sites i m q here h ∙ ap (λ t. (ideal program input limits i).echoes ++ t) acks ∙ sym (append_assoc (ideal program input limits i).echoes heard (x ∷ rest)) in (
+            shows.sent_so ∙ sym (asked_words program input limits sites i m q here h),
             omega (arith, ap length all, ap length shows.took_so, length-append ((ideal program input limits i).echoes ++ heard) (x ∷ rest)),
           )
       lead_hearing (LeadActs m q here h shows) takes =
           let stands = stands_point program input limits sites i m here in
-          let no : true ≡ false = sym takes ∙ ap (λ t. takes_at (side_op Lead program t)) (lead_known _ shows.at_so) ∙ lead_acts_takes program m stands q h in absurd (cc)
+          let no : true ≡ false = sym takes ∙ ap (λ t. takes_at (side_op Lead program t)) (same_state past s _ at shows.at_so) ∙ lead_acts_takes program m stands q h in absurd (cc)
       lead_hearing (LeadEnded end ended shows) takes = let both : Went s ≡ Ended (end_as end) = sym at ∙ shows.at_so in absurd (cc)
       lead_hearing (LeadFailed m q written here h shows) takes = let both : Went s ≡ Ended WriteFault = sym at ∙ shows.at_so in absurd (cc)
 
@@ -124,8 +110,8 @@ module _ (program : MidProgram) (input : List ℕ) (limits : Limits) (sites : Ha
       lead_resting (LeadStarts m here shows) takes = (i, shows.sent_so, shows.took_so)
       lead_resting (LeadAwaits m q heard x rest here h acks shows) takes =
           let stands = stands_point program input limits sites i m here in
-          let no : false ≡ true = sym takes ∙ ap (λ t. takes_at (side_op Lead program t)) (lead_known _ shows.at_so) ∙ lead_hears_takes program m stands q h heard in absurd (cc)
-      lead_resting (LeadActs m q here h shows) takes = (suc i, shows.sent_so ∙ sym (asked_words i m q here h), shows.took_so ∙ sym (asked_echoes i m q here h))
+          let no : false ≡ true = sym takes ∙ ap (λ t. takes_at (side_op Lead program t)) (same_state past s _ at shows.at_so) ∙ lead_hears_takes program m stands q h heard in absurd (cc)
+      lead_resting (LeadActs m q here h shows) takes = (suc i, shows.sent_so ∙ sym (asked_words program input limits sites i m q here h), shows.took_so ∙ sym (asked_echoes program input limits sites i m q here h))
       lead_resting (LeadEnded end ended shows) takes = let both : Went s ≡ Ended (end_as end) = sym at ∙ shows.at_so in absurd (cc)
       lead_resting (LeadFailed m q written here h shows) takes = let both : Went s ≡ Ended WriteFault = sym at ∙ shows.at_so in absurd (cc)
 
@@ -166,9 +152,6 @@ module _ (program : MidProgram) (input : List ℕ) (limits : Limits) (sites : Ha
     trail_final (TrailGone m q done x rest here h checks tells gone) over = inr gone
 
     module _ (s : SideState) (at : past.at ≡ Went s) where
-      trail_known : (s₀ : SideState) → past.at ≡ Went s₀ → s ≡ s₀
-      trail_known s₀ at₀ = let both : Went s ≡ Went s₀ = sym at ∙ at₀ in cc
-
       -- where it takes a word, one of its request is still to come
       pub trail_checking : TrailAt program (ideal program input limits j) quit past → takes_at (side_op Trail program s) ≡ true → length past.took < length (ideal program input limits (suc j)).words
       trail_checking (TrailStarts m here tells) takes = start_takes (wants program m) refl
@@ -176,21 +159,21 @@ module _ (program : MidProgram) (input : List ℕ) (limits : Limits) (sites : Ha
           start_takes : (x : Wants) → wants program m ≡ x → length past.took < length (ideal program input limits (suc j)).words
           start_takes (Runs next) h =
               let stands = stands_point program input limits sites j m here in
-              let no : true ≡ false = sym takes ∙ ap (λ t. takes_at (side_op Trail program t)) (trail_known _ tells.at_so) ∙ trail_runs_takes program m stands (next_line program m stands) next h in absurd (cc)
+              let no : true ≡ false = sym takes ∙ ap (λ t. takes_at (side_op Trail program t)) (same_state past s _ at tells.at_so) ∙ trail_runs_takes program m stands (next_line program m stands) next h in absurd (cc)
           start_takes (Dies trap line) h = let stands = stands_point program input limits sites j m here in absurd (never_dies program m stands (next_line program m stands) trap line h)
           start_takes (Requests q) h =
               let stands = stands_point program input limits sites j m here in
               let some = checks_some program m stands q h in
-              omega (arith, ap length tells.took_so, ap length (asked_words j m q here h), length-append (ideal program input limits j).words (checks_of q), ap length some.2)
+              omega (arith, ap length tells.took_so, ap length (asked_words program input limits sites j m q here h), length-append (ideal program input limits j).words (checks_of q), ap length some.2)
           start_takes Lost h = let stands = stands_point program input limits sites j m here in absurd (never_lost program m stands (next_line program m stands) h)
       trail_checking (TrailChecks m q done x rest here h checks tells) takes =
-          omega (arith, ap length tells.took_so, ap length (asked_words j m q here h), length-append (ideal program input limits j).words (checks_of q), length-append (ideal program input limits j).words done, ap length checks, length-append done (x ∷ rest))
+          omega (arith, ap length tells.took_so, ap length (asked_words program input limits sites j m q here h), length-append (ideal program input limits j).words (checks_of q), length-append (ideal program input limits j).words done, ap length checks, length-append done (x ∷ rest))
       trail_checking (TrailAcks m q here h tells) takes =
           let stands = stands_point program input limits sites j m here in
-          let no : true ≡ false = sym takes ∙ ap (λ t. takes_at (side_op Trail program t)) (trail_known _ tells.at_so) ∙ trail_acks_takes program m stands q h in absurd (cc)
+          let no : true ≡ false = sym takes ∙ ap (λ t. takes_at (side_op Trail program t)) (same_state past s _ at tells.at_so) ∙ trail_acks_takes program m stands q h in absurd (cc)
       trail_checking (TrailEnding m q r end owed h over tells) takes =
           let stands = stands_owed program input limits sites j m r owed in
-          let no : true ≡ false = sym takes ∙ ap (λ t. takes_at (side_op Trail program t)) (trail_known _ tells.at_so) ∙ trail_ends_takes program m stands q h r end over in absurd (cc)
+          let no : true ≡ false = sym takes ∙ ap (λ t. takes_at (side_op Trail program t)) (same_state past s _ at tells.at_so) ∙ trail_ends_takes program m stands q h r end over in absurd (cc)
       trail_checking (TrailEnded end ended tells) takes = let both : Went s ≡ Ended (end_as end) = sym at ∙ tells.at_so in absurd (cc)
       trail_checking (TrailGone m q done x rest here h checks tells gone) takes = let both : Went s ≡ Ended PeerEnded = sym at ∙ tells.at_so in absurd (cc)
 
@@ -202,24 +185,24 @@ module _ (program : MidProgram) (input : List ℕ) (limits : Limits) (sites : Ha
           start_sends : (x : Wants) → wants program m ≡ x → ⊥
           start_sends (Runs next) h =
               let stands = stands_point program input limits sites j m here in
-              let no : true ≡ false = sym sends ∙ ap (λ t. may_send_at (side_op Trail program t)) (trail_known _ tells.at_so) ∙ trail_runs_sends program m stands (next_line program m stands) next h in cc
+              let no : true ≡ false = sym sends ∙ ap (λ t. may_send_at (side_op Trail program t)) (same_state past s _ at tells.at_so) ∙ trail_runs_sends program m stands (next_line program m stands) next h in cc
           start_sends (Dies trap line) h = let stands = stands_point program input limits sites j m here in never_dies program m stands (next_line program m stands) trap line h
           start_sends (Requests q) h =
               let stands = stands_point program input limits sites j m here in
               let some = checks_some program m stands q h in
-              let no : false ≡ true = sym takes ∙ ap (λ t. takes_at (side_op Trail program t)) (trail_known _ tells.at_so) ∙ trail_checks_takes program m stands q h [] some.0 some.1 some.2 in cc
+              let no : false ≡ true = sym takes ∙ ap (λ t. takes_at (side_op Trail program t)) (same_state past s _ at tells.at_so) ∙ trail_checks_takes program m stands q h [] some.0 some.1 some.2 in cc
           start_sends Lost h = let stands = stands_point program input limits sites j m here in never_lost program m stands (next_line program m stands) h
       trail_acking (TrailChecks m q done x rest here h checks tells) takes sends =
           let stands = stands_point program input limits sites j m here in
-          let no : false ≡ true = sym takes ∙ ap (λ t. takes_at (side_op Trail program t)) (trail_known _ tells.at_so) ∙ trail_checks_takes program m stands q h done x rest checks in absurd (cc)
+          let no : false ≡ true = sym takes ∙ ap (λ t. takes_at (side_op Trail program t)) (same_state past s _ at tells.at_so) ∙ trail_checks_takes program m stands q h done x rest checks in absurd (cc)
       trail_acking (TrailAcks m q here h tells) takes sends =
           let stands = stands_point program input limits sites j m here in
           let some = checks_some program m stands q h in (
-            tells.took_so ∙ sym (asked_words j m q here h),
-            omega (arith, ap length (asked_words j m q here h), length-append (ideal program input limits j).words (checks_of q), ap length some.2),
+            tells.took_so ∙ sym (asked_words program input limits sites j m q here h),
+            omega (arith, ap length (asked_words program input limits sites j m q here h), length-append (ideal program input limits j).words (checks_of q), ap length some.2),
           )
       trail_acking (TrailEnding m q r end owed h over tells) takes sends =
           let stands = stands_owed program input limits sites j m r owed in
-          let no : true ≡ false = sym sends ∙ ap (λ t. may_send_at (side_op Trail program t)) (trail_known _ tells.at_so) ∙ trail_ends_sends program m stands q h r end over in absurd (cc)
+          let no : true ≡ false = sym sends ∙ ap (λ t. may_send_at (side_op Trail program t)) (same_state past s _ at tells.at_so) ∙ trail_ends_sends program m stands q h r end over in absurd (cc)
       trail_acking (TrailEnded end ended tells) takes sends = let both : Went s ≡ Ended (end_as end) = sym at ∙ tells.at_so in absurd (cc)
       trail_acking (TrailGone m q done x rest here h checks tells gone) takes sends = let both : Went s ≡ Ended PeerEnded = sym at ∙ tells.at_so in absurd (cc)

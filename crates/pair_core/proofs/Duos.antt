@@ -15,6 +15,7 @@ use Rattle.mid_code.specs.declared.mid.Mid.{Mid}
 use Rattle.mid_code.specs.declared.version.VersionOp.{VersionOp}
 use Rattle.mid_code.specs.Versions.{leading_ops, trailing_ops}
 use Rattle.world.specs.Ideal.{Ended as PlaceEnded, ideal}
+use Rattle.world.proofs.Plain.{with_main}
 use Rattle.machine.specs.declared.thread_end.ThreadEnd.TheVariants.{WriteFault}
 use Rattle.machine.specs.Side.{SideState, Meet, Plain, Got, Closed, Failed, Outcome, Went, Ended, StepGives}
 use Rattle.machine.specs.Steps.{side_op, takes_at}
@@ -22,7 +23,7 @@ use Rattle.machine.specs.Meets.{MeetsBy, next_of, CanMeet}
 use Rattle.pair_core.specs.History.{Past, opening_past, word_met, grown, HasPast}
 use Rattle.pair_core.specs.Duo.{DuoState, opening_duo, is_over, view_of, Finds, Waits, Meets, finds, put_on, made, turn_found, turn_at, turn_of, Entry, Scheduled, run_on, scheduled}
 use Rattle.pair_core.proofs.Prefixes.{none_added, prefix_length, prefix_trans}
-use Rattle.pair_core.proofs.Groups.{group_start, put_at, within_group, with_main}
+use Rattle.pair_core.proofs.Groups.{group_start, put_at, within_group}
 use Rattle.pair_core.proofs.Ideals.{grows, below_end}
 use Rattle.pair_core.proofs.Lead.{LeadAt, LeadStarts, LeadMeets, lead_step}
 use Rattle.pair_core.proofs.Trail.{TrailAt, TrailStarts, TrailMeets, trail_as, trail_step}

@@ -38,9 +38,6 @@ module _ (program : MidProgram) (m : Machine) (stands : Stands program m) (q : R
   pub same_count : length (acks_of q) ≡ length (checks_of q)
   same_count = ap length g.acks ∙ sym (ap length g.checks)
 
-  pub none_answered : (r : Response) → response_words q r ≡ []
-  none_answered r = g.no_words r
-
   one_check : length (checks_of q) ≡ 1
   one_check = ap length g.checks
 

@@ -1,5 +1,5 @@
 -- The leading side ends by a fault of the outlet only where the outlet fails.
-use Rattle.std.proofs.Common.{◌≡◌, ◌≢◌, ℕ, Bool, true, false, List, [], ◌∷◌, ◌++◌, length, Option, Some, None, nat_lt, ◌==◌, if◌then◌else◌, refl, sym, ap, ◌∙◌, subst}
+use Rattle.std.proofs.Common.{◌≡◌, ◌≢◌, ℕ, Bool, true, false, List, [], ◌∷◌, ◌++◌, Option, Some, None, refl, sym, ap, ◌∙◌, subst}
 use Rattle.srmt_base.specs.declared.limits.Limits.{Limits}
 use Rattle.srmt_base.specs.declared.side.Side.{Side}
 use Rattle.srmt_base.specs.declared.side.Side.TheVariants.{Lead, Trail}
@@ -13,10 +13,11 @@ use Rattle.word_stream.specs.declared.request.Request.TheVariants.{Put, Exit}
 use Rattle.word_stream.specs.declared.request.Response.{Response}
 use Rattle.word_stream.specs.Exchange.{ack_words}
 use Rattle.world.specs.World.{WorldState, Asked, ask}
-use Rattle.machine.specs.declared.thread_end.ThreadEnd.TheVariants.{Echo, WriteFault}
+use Rattle.machine.specs.declared.thread_end.ThreadEnd.TheVariants.{WriteFault}
 use Rattle.machine.specs.Side.{SideState, Meet, Plain, Got, Closed, Failed, Outcome, Went, Ended}
 use Rattle.machine.specs.Steps.{side_op, takes_at, may_send_at, operands, performed}
-use Rattle.machine.specs.Leading.{compared, heard_by, awaits, act_request, answered, acts, lead_op, lead_at, lead_next}
+use Rattle.machine.specs.Leading.{act_request, answered, acts, lead_op, lead_at, lead_next}
+use Rattle.machine.proofs.Trying.{awaits_fault}
 use Rattle.pair_core.specs.Duo.{DuoState, opening_duo, View, view_of, Finds, Waits, Meets, finds_word, finds_room, is_crowded, finds_by, finds, turn_found, turn_at, turn_of, Entry, Scheduled, run_on, scheduled}
 use Rattle.pair_core.specs.Laws.{NoneFails}
 
@@ -29,25 +30,6 @@ performed_clean (Goes machine) s h = cc
 performed_clean (Traps trap line) s h = cc
 performed_clean (Reaches access line) s h = cc
 performed_clean Lost s h = cc
-
-compared_by : (b : Bool) (rest : Outcome) (word mine : ℕ) → (rest ≡ Ended WriteFault → ⊥) → (if b then rest else Ended (Echo word mine)) ≡ Ended WriteFault → ⊥
-compared_by true rest word mine clean h = clean h
-compared_by false rest word mine clean h = cc
-
-compared_clean : (words own : List ℕ) (s : SideState) → compared words own s ≡ Ended WriteFault → ⊥
-compared_clean [] own s h = cc
-compared_clean (word ∷ words) [] s h = cc
-compared_clean (word ∷ words) (mine ∷ own) s h = compared_by (word == mine) (compared words own s) word mine (λ g. compared_clean words own s g) h
-
-heard_clean : (b : Bool) (words own : List ℕ) (s : SideState) → heard_by b words own s ≡ Ended WriteFault → ⊥
-heard_clean true words own s h = cc
-heard_clean false words own s h = compared_clean words own s h
-
-awaits_clean : (meet : Meet) (own : List ℕ) (s : SideState) → awaits meet own s ≡ Ended WriteFault → ⊥
-awaits_clean (Got word) own s h = heard_clean (nat_lt (length (s.heard ++ word ∷ [])) (length own)) (s.heard ++ word ∷ []) own s h
-awaits_clean Closed own s h = cc
-awaits_clean Plain own s h = cc
-awaits_clean (Failed written) own s h = cc
 
 answered_clean : (q : Request) (r : Response) (s : SideState) → answered q r s ≡ Ended WriteFault → ⊥
 answered_clean (Put site value) r s h = cc
@@ -62,7 +44,7 @@ acts_fault (Failed written) q asked s w h = (written, refl)
 op_fault : (program : MidProgram) (op : VersionOp) (line : ℕ) (s : SideState) (w : WorldState) (meet : Meet) → (lead_op program op line s w meet).outcome ≡ Ended WriteFault → Fails meet
 op_fault program (Copied mid) line s w meet h = absurd (performed_clean (act program mid line s.machine) s h)
 op_fault program (Ask site args) line s w meet h = absurd (cc)
-op_fault program (Await site args) line s w meet h = absurd (awaits_clean meet (ack_words site.0 (operands s args)) s h)
+op_fault program (Await site args) line s w meet h = absurd (awaits_fault meet (ack_words site.0 (operands s args)) s h)
 op_fault program (Act site asks args) line s w meet h = acts_fault meet (act_request asks site (operands s args)) (ask w (act_request asks site (operands s args))) s w h
 op_fault program (Check site source) line s w meet h = absurd (cc)
 op_fault program (Ack site args) line s w meet h = absurd (cc)

@@ -7,12 +7,18 @@ use Rattle.mid_code.specs.declared.version.VersionOp.{VersionOp}
 use Rattle.mid_code.specs.declared.version.VersionOp.TheVariants.{Copied, Ask, Await, Act, Check, Ack, End}
 use Rattle.mid_code.specs.declared.version.VersionLine.{VersionLine}
 use Rattle.world.specs.World.{WorldState}
-use Rattle.machine.specs.Side.{SideState, Meet, Plain, Closed, StepGives}
+use Rattle.machine.specs.declared.thread_end.Stepped.TheVariants.{NotYet}
+use Rattle.machine.specs.Side.{SideState, Meet, Plain, Closed, Outcome, Went, Ended, StepGives}
 use Rattle.machine.specs.Steps.{side_op, takes_at, may_send_at, step_room}
 use Rattle.machine.specs.Trailing.{trail_op, trail_at, trail_next}
 use Rattle.machine.specs.Meets.{MeetsBy, next_of}
 use Rattle.pair_core.specs.History.{word_met}
-use Rattle.pair_core.specs.Duo.{View, Finds, Waits, Meets, finds_word, failed_by, meet_by, finds_room, is_crowded, finds_by, finds}
+use Rattle.pair_core.specs.Duo.{View, Finds, Waits, Meets, finds_word, failed_by, meet_by, finds_room, is_crowded, finds_by, finds, stepped_of}
+
+-- a step that was made is none that waits
+pub stepped_made : (o : Outcome) → stepped_of o ≡ NotYet → ⊥
+stepped_made (Went s) h = cc
+stepped_made (Ended end) h = cc
 
 -- a step takes what comes first, finds its link closed only where all was taken, and meets else
 -- what its instruction can meet

@@ -1,8 +1,6 @@
 -- The group of instructions that stands for one instruction of middle code, on either side. This is
 -- the one place that looks at the instructions one by one.
-use Rattle.std.proofs.Common.{◌≡◌, ℕ, suc, ◌+◌, ◌<◌, ◌≤◌, ◌%◌, inl, inr, Bool, true, false, List, [], ◌∷◌, length, Option, Some, None, slice_get, option_and_then, refl, sym, ap, ◌∙◌, subst, arith}
-use Rattle.std.specs.Prelude.{◌&&◌, not, ◌==◌}
-use Rattle.std.proofs.lemmas.Bool.{cases_lt, eqb-false}
+use Rattle.std.proofs.Common.{◌≡◌, ℕ, suc, ◌+◌, ◌<◌, ◌≤◌, ◌%◌, true, false, List, [], ◌∷◌, length, Option, Some, None, slice_get, option_and_then, refl, sym, ap, ◌∙◌, subst, arith}
 use Rattle.srmt_base.specs.declared.limits.Limits.{Limits}
 use Rattle.srmt_base.specs.declared.trap.Trap.{Trap}
 use Rattle.srmt_base.specs.declared.trap.SourceEnd.{SourceEnd}
@@ -23,25 +21,25 @@ use Rattle.mid_code.specs.declared.version.VersionOp.TheVariants.{Copied, Ask, A
 use Rattle.mid_code.specs.Program.{function_at, line_at}
 use Rattle.mid_code.specs.Classes.{site_of, site_at, protected_functions}
 use Rattle.mid_code.specs.Versions.{leading_ops, trailing_ops, with_line, versions_from, version_at}
-use Rattle.mid_code.specs.Machine.{Machine, Goes, register, moved_to, passed, given, spent, act, act_at, does}
+use Rattle.mid_code.specs.Machine.{Machine, Goes, register, moved_to, passed, given, act, act_at, does}
 use Rattle.mid_code.specs.Pairs.{IsOfFirstForm, HasSites}
 use Rattle.mid_code.specs.Rules.{is_final}
-use Rattle.mid_code.specs.Start.{full_budget, main_activation, started_machine}
+use Rattle.mid_code.specs.Start.{started_machine}
 use Rattle.mid_code.proofs.Fetching.{version_place, group_of, fetch, moved-next}
+use Rattle.mid_code.proofs.Flowing.{followed}
 use Rattle.mid_code.proofs.Keeping.{keeps}
 use Rattle.mid_code.proofs.Values.{one_within}
-use Rattle.world.proofs.Plain.{plain_line}
+use Rattle.world.proofs.Plain.{plain_line, is_main, with_main}
 use Rattle.word_stream.specs.declared.request.Request.{Request}
 use Rattle.word_stream.specs.declared.request.Request.TheVariants.{Put as PutAsked, Exit as ExitAsked}
 use Rattle.word_stream.specs.declared.request.Response.{Response}
-use Rattle.word_stream.specs.declared.request.Response.TheVariants.{Done}
-use Rattle.word_stream.specs.Exchange.{request_site, operands_of, is_guarded, response_words, checks_of, acks_of}
+use Rattle.word_stream.specs.Exchange.{request_site, operands_of, is_guarded, checks_of, acks_of}
 use Rattle.world.specs.Requests.{Runs, Dies, Requests, Lost, next_site, wants_by, wants, Back, Over, resume_by, resume}
 use Rattle.machine.specs.declared.thread_end.ThreadEnd.TheVariants.{Exit as ExitEnd}
 use Rattle.machine.specs.Side.{SideState, Went, Ended}
 use Rattle.machine.specs.Steps.{passed_on}
 use Rattle.machine.specs.Leading.{act_request, answered}
-use Rattle.machine.proofs.FirstForm.{is_main, first_function_at}
+use Rattle.machine.proofs.FirstForm.{first_function}
 use Rattle.pair_core.specs.Laws.{end_as}
 
 -- the machine has an instruction of a protected function of a pair's program next
@@ -86,18 +84,6 @@ pub record Next (program : MidProgram) (m : Machine) : Type 0 where
   -- another follows it, unless it is the last
   pub inner : is_final line.mid ≡ false → m.top.place + 1 < length code.code
 
-not_at_end : (at_end final : Bool) → final ≡ false → (at_end && not final) ≡ false → at_end ≡ false
-not_at_end false final unlike h = refl
-not_at_end true false unlike h = absurd (cc)
-not_at_end true true unlike h = absurd (cc)
-
-not_end : (place count : ℕ) → place < count → (place + 1 == count) ≡ false → place + 1 < count
-not_end place count within apart =
-    elim (cases_lt (place + 1) count) as (λ _. place + 1 < count) [
-      | inl less ↦ less
-      | inr more ↦ let e : place + 1 ≡ count = omega arith in absurd (eqb-false (place + 1) count apart e)
-    ]
-
 pub next_line : (program : MidProgram) (m : Machine) → Stands program m → Next program m
 next_line program m stands =
     let one = one_within stands.code.code m.top.place stands.place in
@@ -109,7 +95,7 @@ next_line program m stands =
       found = stands.found;
       here = one.1;
       plain = plain_line program stands.sites m.top.function stands.code m.top.place one.0 stands.found stands.protected one.1;
-      inner = λ more. not_end m.top.place (length stands.code.code) stands.place (not_at_end (m.top.place + 1 == length stands.code.code) (is_final one.0.mid) more rules.followed);
+      inner = λ more. followed program m.top.function stands.code m.top.place one.0.mid rules more stands.place;
     }
 
 sum_same : (a b c d : ℕ) → a ≡ b → c ≡ d → a + c ≡ b + d
@@ -207,14 +193,13 @@ pub record ExchangeGroup (program : MidProgram) (m : Machine) (q : Request) (l :
   pub checks : checks_of q ≡ word_of CheckKind site.0 (register m source) ∷ []
   pub acks : acks_of q ≡ word_of AckKind site.0 (register m source) ∷ []
   pub guarded : is_guarded q ≡ true
-  pub no_words : (r : Response) → response_words q r ≡ []
   -- the run goes on behind the group, or ends by what the register holds
   pub back : (r : Response) (next : Machine) → resume program m r ≡ Back next → (next ≡ passed m) × (tail ≡ []) × ((s : SideState) → answered q r s ≡ Went (passed_on s)) × (is_final l.mid ≡ false)
   pub over : (r : Response) (end : SourceEnd) → resume program m r ≡ Over end → (tail ≡ End source ∷ []) × (ExitEnd (register m source % 256) ≡ end_as end) × ((s : SideState) → answered q r s ≡ Ended (end_as end))
 
 module _ (program : MidProgram) (m : Machine) (q : Request) where
   exchange_group : (mid : Mid) (line : ℕ) → IsOfFirstForm mid → does program m ≡ act program mid line m → wants_by (next_site program m) (act program mid line m) ≡ Requests q → ExchangeGroup program m q (record { line = line; mid = mid })
-  unfolding request_site operands_of is_guarded response_words resume
+  unfolding request_site operands_of is_guarded resume
   exchange_group (Const target value) line plain does_so h = absurd (cc)
   exchange_group (Conv from to target source) line plain does_so h = absurd (cc)
   exchange_group (Put source) line plain does_so h =
@@ -230,14 +215,10 @@ module _ (program : MidProgram) (m : Machine) (q : Request) where
         checks = ap checks_of (sym e);
         acks = ap acks_of (sym e);
         guarded = ap is_guarded (sym e);
-        no_words = λ r. none r;
         back = λ r next back. (by_back r next back, refl, (λ s. ap (λ x. answered x r s) (sym e)), refl);
         over = λ r end over. absurd (not_over r end over);
       }
     where
-      none : (r : Response) → response_words q r ≡ []
-      none Done = refl
-
       by_back : (r : Response) (next : Machine) → resume_by (does program m) m r ≡ Back next → next ≡ passed m
       by_back r next back = let f : Back (passed m) ≡ Back next = sym (ap (λ d. resume_by d m r) does_so) ∙ back in cc
 
@@ -256,14 +237,10 @@ module _ (program : MidProgram) (m : Machine) (q : Request) where
         checks = ap checks_of (sym e);
         acks = ap acks_of (sym e);
         guarded = ap is_guarded (sym e);
-        no_words = λ r. none r;
         back = λ r next back. absurd (not_back r next back);
         over = λ r end over. let f = by_over r end over in (refl, ap end_as f, λ s. ap (λ x. answered x r s) (sym e) ∙ ap (λ x. Ended (end_as x)) f);
       }
     where
-      none : (r : Response) → response_words q r ≡ []
-      none Done = refl
-
       not_back : (r : Response) (next : Machine) → resume_by (does program m) m r ≡ Back next → ⊥
       not_back r next back = let f : Over (SourceExit (register m source % 256)) ≡ Back next = sym (ap (λ d. resume_by d m r) does_so) ∙ back in cc
 
@@ -307,13 +284,9 @@ module _ (program : MidProgram) (m : Machine) (stands : Stands program m) (n : N
       let g = (group_asks q h).back r next back in
       subst (Stands program) (sym g.0) (stands_next (passed m) refl refl g.3)
 
--- the machine at the start, by the code of `main`
-abbrev pub with_main : MidProgram → Limits → Option MidFunction → Machine
-with_main program limits f = record { top = main_activation program f; below = []; protected = spent (full_budget limits); binary = full_budget limits }
-
 pub stands_started : (program : MidProgram) (limits : Limits) → HasSites program → Stands program (started_machine program limits)
 stands_started program limits sites =
     let main = is_main program sites.valid in
-    let first = first_function_at program program.main main.function sites main.found main.of_main_file in
+    let first = first_function program program.main main.function sites main.found main.of_main_file in
     subst (λ f. Stands program (with_main program limits f)) (sym main.found)
     (record { sites = sites; code = main.function; found = main.found; place = omega (arith, first.long); protected = main.of_main_file })

@@ -77,10 +77,12 @@ module _ (program : MidProgram) (c : IdealState) where
   pub next_runs : (m next : Machine) → c.place ≡ Here m → wants program m ≡ Runs next → ideal_next program c ≡ record c { place = Here next }
   next_runs m next here h = ap (λ p. next_by p program c) here ∙ ap (λ x. here_next x program m c) h
 
+  asks_on : (m : Machine) (q : Request) → Stands program m → wants program m ≡ Requests q → requested (is_guarded q) program m q (ask c.world q) c ≡ asked_state program m q c
+  asks_on m q stands h = ap (λ b. requested b program m q (ask c.world q) c) (asks_guarded program m stands q h)
+
   pub next_asks : (m : Machine) (q : Request) → c.place ≡ Here m → Stands program m → wants program m ≡ Requests q → ideal_next program c ≡ asked_state program m q c
   next_asks m q here stands h =
-      ap (λ p. next_by p program c) here ∙ ap (λ x. here_next x program m c) h
-      ∙ ap (λ b. requested b program m q (ask c.world q) c) (asks_guarded program m stands q h)
+      ap (λ p. next_by p program c) here ∙ ap (λ x. here_next x program m c) h ∙ asks_on m q stands h
 
   pub next_owed : (m : Machine) (r : Response) → c.place ≡ Owed m r → ideal_next program c ≡ owed_next program m r c
   next_owed m r owed = ap (λ p. next_by p program c) owed
@@ -104,8 +106,7 @@ module _ (program : MidProgram) (c : IdealState) where
   grows_here m stands (Runs next) h = grows_words c (record c { place = Here next }) [] (sym (append-nil c.words)) refl refl
   grows_here m stands (Dies trap line) h = absurd (never_dies program m stands (next_line program m stands) trap line h)
   grows_here m stands (Requests q) h =
-      let e : requested (is_guarded q) program m q (ask c.world q) c ≡ asked_state program m q c = ap (λ b. requested b program m q (ask c.world q) c) (asks_guarded program m stands q h) in
-      subst (Grows c) (sym e) (grows_both c (asked_state program m q c) (checks_of q) (acks_of q) (ask c.world q).events refl refl refl (same_count program m stands q h))
+      subst (Grows c) (sym (asks_on m q stands h)) (grows_both c (asked_state program m q c) (checks_of q) (acks_of q) (ask c.world q).events refl refl refl (same_count program m stands q h))
   grows_here m stands Lost h = grows_none c
 
   grows_at : (p : Place) → PlaceFits program p → Grows c (next_by p program c)
@@ -124,8 +125,7 @@ module _ (program : MidProgram) (c : IdealState) where
   fits_here m stands (Runs next) h = stands_runs program m stands (next_line program m stands) next h
   fits_here m stands (Dies trap line) h = tt
   fits_here m stands (Requests q) h =
-      let e : requested (is_guarded q) program m q (ask c.world q) c ≡ asked_state program m q c = ap (λ b. requested b program m q (ask c.world q) c) (asks_guarded program m stands q h) in
-      subst (λ d. PlaceFits program d.place) (sym e) (stands, q, h)
+      subst (λ d. PlaceFits program d.place) (sym (asks_on m q stands h)) (stands, q, h)
   fits_here m stands Lost h = absurd (never_lost program m stands (next_line program m stands) h)
 
   fits_at : (p : Place) → c.place ≡ p → PlaceFits program p → PlaceFits program (next_by p program c).place
@@ -146,6 +146,16 @@ module _ (program : MidProgram) (input : List ℕ) (limits : Limits) (sites : Ha
 
   pub stands_owed : (i : ℕ) (m : Machine) (r : Response) → (ideal program input limits i).place ≡ Owed m r → Stands program m
   stands_owed i m r owed = let fits : PlaceFits program (Owed m r) = subst (PlaceFits program) owed (fits_point i) in fits.0
+
+  -- after a request was checked
+  pub asked_words : (i : ℕ) (m : Machine) (q : Request) → (ideal program input limits i).place ≡ Here m → wants program m ≡ Requests q → (ideal program input limits (suc i)).words ≡ (ideal program input limits i).words ++ checks_of q
+  asked_words i m q here h = ap (λ d. d.words) (next_asks program (ideal program input limits i) m q here (stands_point i m here) h)
+
+  pub asked_echoes : (i : ℕ) (m : Machine) (q : Request) → (ideal program input limits i).place ≡ Here m → wants program m ≡ Requests q → (ideal program input limits (suc i)).echoes ≡ (ideal program input limits i).echoes ++ acks_of q
+  asked_echoes i m q here h = ap (λ d. d.echoes) (next_asks program (ideal program input limits i) m q here (stands_point i m here) h)
+
+  pub asked_events : (i : ℕ) (m : Machine) (q : Request) → (ideal program input limits i).place ≡ Here m → wants program m ≡ Requests q → (ideal program input limits (suc i)).events ≡ (ideal program input limits i).events ++ (ask (ideal program input limits i).world q).events
+  asked_events i m q here h = ap (λ d. d.events) (next_asks program (ideal program input limits i) m q here (stands_point i m here) h)
 
   grows_by : (k i : ℕ) → Grows (ideal program input limits i) (ideal program input limits (k + i))
   grows_by zero i = let e : i ≡ zero + i = omega arith in subst (λ x. Grows (ideal program input limits i) (ideal program input limits x)) e (grows_none (ideal program input limits i))

@@ -19,11 +19,12 @@ use Rattle.machine.specs.Meets.{next_of, CanMeet}
 use Rattle.pair_core.specs.History.{Past, word_met, grown}
 use Rattle.pair_core.specs.Fit.{IsPrefix}
 use Rattle.pair_core.specs.Laws.{end_as}
+use Rattle.pair_core.proofs.Pasts.{same_state}
 use Rattle.pair_core.proofs.Prefixes.{prefix_trans, next_of_two}
 use Rattle.pair_core.proofs.Groups.{next_line, lead_side, never_dies, never_lost}
 use Rattle.pair_core.proofs.Steps.{lead_goes, lead_runs_takes}
 use Rattle.pair_core.proofs.Exchanges.{acks_some, lead_asks, lead_asks_takes, lead_hears_last, lead_hears_more, lead_hears_takes, lead_acts_back, lead_acts_over, lead_acts_takes, lead_fails}
-use Rattle.pair_core.proofs.Ideals.{answered_state, next_runs, next_asks, next_twice, grows, stands_point}
+use Rattle.pair_core.proofs.Ideals.{answered_state, next_runs, next_twice, grows, stands_point, asked_echoes}
 
 -- what a history shows, part by part
 pub record Shows (past : Past) (at : Outcome) (w : WorldState) (took sent : List ℕ) (events : List Event) : Type 0 where
@@ -39,8 +40,7 @@ pub shows_on : (side : Side) (program : MidProgram) (past : Past) (s s' : SideSt
     took ++ word_met meet ≡ took' → sent ++ gives.sent ≡ sent' → events ++ gives.events ≡ events' →
     Shows (grown past meet (next_of side program s' past.world meet)) gives.outcome gives.world took' sent' events'
 shows_on side program past s s' meet w took sent events gives took' sent' events' shows at law e f g =
-    let same : s' ≡ s = let both : Went s' ≡ Went s = sym at ∙ shows.at_so in cc in
-    let made : next_of side program s' past.world meet ≡ gives = ap₂ (λ x y. next_of side program x y meet) same shows.world_so ∙ law in
+    let made : next_of side program s' past.world meet ≡ gives = ap₂ (λ x y. next_of side program x y meet) (same_state past s' s at shows.at_so) shows.world_so ∙ law in
     record {
       at_so = ap (λ x. x.outcome) made;
       world_so = ap (λ x. x.world) made;
@@ -95,8 +95,7 @@ module _ (program : MidProgram) (input : List ℕ) (limits : Limits) (sites : Ha
     -- what it can meet, where it is known to stand
     can_there : (s₀ : SideState) (w : WorldState) (took sent : List ℕ) (events : List Event) (meet : Meet) → Shows past (Went s₀) w took sent events → CanMeet Lead program s past.world meet → CanMeet Lead program s₀ w meet
     can_there s₀ w took sent events meet shows can =
-        let same : s ≡ s₀ = let both : Went s ≡ Went s₀ = sym at ∙ shows.at_so in cc in
-        subst₂ (λ x y. CanMeet Lead program x y meet) same shows.world_so can
+        subst₂ (λ x y. CanMeet Lead program x y meet) (same_state past s s₀ at shows.at_so) shows.world_so can
 
     from_start : (m : Machine) → c.place ≡ Here m → Shows past (Went (lead_side program m 0 [])) c.world c.echoes c.words c.events →
         (x : Wants) → wants program m ≡ x → (meet : Meet) → CanMeet Lead program (lead_side program m 0 []) c.world meet → LeadGoes (after meet)
@@ -168,7 +167,7 @@ module _ (program : MidProgram) (input : List ℕ) (limits : Limits) (sites : Ha
     from_await m q heard x rest here h acks shows (Got word) can right =
         let stands = stands_point program input limits sites i m here in
         let all : (ideal program input limits (suc i)).echoes ≡ (c.echoes ++ heard) ++ x ∷ rest =
-        ap (λ d. d.echoes) (next_asks program c m q here stands h) ∙ ap (λ t. c.echoes ++ t) acks ∙ sym (append_assoc c.echoes heard (x ∷ rest)) in
+        asked_echoes program input limits sites i m q here h ∙ ap (λ t. c.echoes ++ t) acks ∙ sym (append_assoc c.echoes heard (x ∷ rest)) in
         let same : word ≡ x = next_echo (suc i) right.0 (c.echoes ++ heard) rest word x (subst (λ t. IsPrefix (t ++ word ∷ []) (ideal program input limits right.0).echoes) shows.took_so right.1) all in
         subst (λ y. LeadGoes (after (Got y))) (sym same) (hears m q heard x rest here h acks shows)
 

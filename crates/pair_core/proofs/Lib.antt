@@ -1,4 +1,5 @@
 pub mod Prefixes
+pub mod Pasts
 pub mod Groups
 pub mod Steps
 pub mod Exchanges

@@ -14,9 +14,10 @@ use Rattle.mid_code.specs.Versions.{leading_ops, version_at}
 use Rattle.word_stream.specs.declared.request.Request.{Request}
 use Rattle.word_stream.specs.declared.request.Response.{Response}
 use Rattle.word_stream.specs.Exchange.{checks_of, acks_of}
+use Rattle.word_stream.proofs.Spelled.{no_words}
 use Rattle.world.specs.World.{WorldState, ask}
 use Rattle.world.specs.Requests.{Wants, Runs, Dies, Requests, Lost, wants, Resumed, Back, Over, resume}
-use Rattle.world.specs.Ideal.{Here, ideal}
+use Rattle.world.specs.Ideal.{ideal}
 use Rattle.machine.specs.declared.thread_end.ThreadEnd.TheVariants.{PeerEnded, WriteFault}
 use Rattle.machine.specs.Side.{SideState, Meet, Plain, Got, Closed, Failed, Outcome, Went, Ended, StepGives}
 use Rattle.machine.specs.Steps.{versions_of, side_op, takes_at}
@@ -24,10 +25,11 @@ use Rattle.machine.specs.Meets.{MeetsBy, next_of, CanMeet}
 use Rattle.pair_core.specs.History.{Past}
 use Rattle.pair_core.specs.Duo.{DuoState}
 use Rattle.pair_core.specs.Laws.{end_as}
+use Rattle.pair_core.proofs.Pasts.{same_state}
 use Rattle.pair_core.proofs.Groups.{Stands, next_line, group_place, lead_side, trail_side, never_dies, never_lost}
 use Rattle.pair_core.proofs.Steps.{gave, IsPresent, lead_goes, trail_goes, lead_runs_takes, trail_runs_takes, lead_runs_here, trail_runs_here, runs_function, lead_runs_place, trail_runs_place}
-use Rattle.pair_core.proofs.Exchanges.{acks_few, checks_few, none_answered, checks_some, lead_asks, lead_asks_takes, lead_hears_last, lead_hears_more, lead_hears_takes, lead_acts_back, lead_acts_over, lead_acts_takes, lead_fails, trail_checks, trail_checks_takes, trail_closed, trail_acks_back, trail_acks_over, trail_acks_takes, trail_ends, trail_ends_takes, lead_ask_here, lead_await_here, lead_act_here, trail_check_here, trail_ack_here, trail_end_here, back_function, lead_back_place, trail_back_place}
-use Rattle.pair_core.proofs.Ideals.{next_asks, stands_point, stands_owed}
+use Rattle.pair_core.proofs.Exchanges.{acks_few, checks_few, checks_some, lead_asks, lead_asks_takes, lead_hears_last, lead_hears_more, lead_hears_takes, lead_acts_back, lead_acts_over, lead_acts_takes, lead_fails, trail_checks, trail_checks_takes, trail_closed, trail_acks_back, trail_acks_over, trail_acks_takes, trail_ends, trail_ends_takes, lead_ask_here, lead_await_here, lead_act_here, trail_check_here, trail_ack_here, trail_end_here, back_function, lead_back_place, trail_back_place}
+use Rattle.pair_core.proofs.Ideals.{stands_point, stands_owed, asked_words, asked_echoes}
 use Rattle.pair_core.proofs.Lead.{LeadAt, LeadStarts, LeadAwaits, LeadActs, LeadEnded, LeadFailed, LeadMeets, next_echo}
 use Rattle.pair_core.proofs.Trail.{TrailAt, TrailStarts, TrailChecks, TrailAcks, TrailEnding, TrailEnded, TrailGone, TrailMeets, next_word}
 
@@ -159,10 +161,10 @@ module _ (program : MidProgram) (m : Machine) (stands : Stands program m) (w : W
 
     lead_acts_on : (x : Resumed) → resume program m (ask w q).response ≡ x → Lower program Lead (lead_side program m 2 []) w Plain
     lead_acts_on (Back next) back =
-        by_law program Lead (lead_side program m 2 []) w Plain _ (lead_acts_back program m stands q h w next back) (omega (arith, ap length (none_answered program m stands q h (ask w q).response)))
+        by_law program Lead (lead_side program m 2 []) w Plain _ (lead_acts_back program m stands q h w next back) (omega (arith, ap length (no_words q (ask w q).response)))
         (lower_on program Lead (lead_side program m 2 []) (lead_act_here program m stands q h) (omega arith) (lead_side program next 0 []) (back_function program m stands q h _ next back) (omega (arith, lead_back_place program m stands q h _ next back)))
     lead_acts_on (Over end) over =
-        by_law program Lead (lead_side program m 2 []) w Plain _ (lead_acts_over program m stands q h w end over) (omega (arith, ap length (none_answered program m stands q h (ask w q).response)))
+        by_law program Lead (lead_side program m 2 []) w Plain _ (lead_acts_over program m stands q h w end over) (omega (arith, ap length (no_words q (ask w q).response)))
         (lower_over program Lead (lead_side program m 2 []) (lead_act_here program m stands q h) (omega arith))
 
     lead_act : (meet : Meet) → CanMeet Lead program (lead_side program m 2 []) w meet → Lower program Lead (lead_side program m 2 []) w meet
@@ -188,14 +190,11 @@ module _ (program : MidProgram) (m : Machine) (stands : Stands program m) (w : W
 
 -- the steps of a side beside the ideal run
 module _ (program : MidProgram) (input : List ℕ) (limits : Limits) (sites : HasSites program) (i : ℕ) (past : Past) (s : SideState) (at : past.at ≡ Went s) where
-  known : (s₀ : SideState) → past.at ≡ Went s₀ → s₀ ≡ s
-  known s₀ at₀ = let both : Went s₀ ≡ Went s = sym at₀ ∙ at in cc
-
   module _ (meet : Meet) where
     -- what holds where the side is known to stand holds of it
     lower_there : (side : Side) (s₀ : SideState) (w : WorldState) → past.at ≡ Went s₀ → past.world ≡ w → CanMeet side program s past.world meet → (CanMeet side program s₀ w meet → Lower program side s₀ w meet) → Lower program side s past.world meet
     lower_there side s₀ w at₀ world can less =
-        let same = known s₀ at₀ in
+        let same = same_state past s₀ s at₀ at in
         subst₂ (λ x y. Lower program side x y meet) same (sym world) (less (subst₂ (λ x y. CanMeet side program x y meet) (sym same) world can))
 
     pub lead_lowers : LeadAt program (ideal program input limits i) past → CanMeet Lead program s past.world meet → LeadMeets program input limits sites past meet → Lower program Lead s past.world meet
@@ -214,7 +213,7 @@ module _ (program : MidProgram) (input : List ℕ) (limits : Limits) (sites : Ha
         closes (Failed written) r e = cc
 
         all : (ideal program input limits (suc i)).echoes ≡ past.took ++ x ∷ rest
-        all = ap (λ d. d.echoes) (next_asks program (ideal program input limits i) m q here stands h) ∙ ap (λ t. (ideal program input limits i).echoes ++ t) acks ∙ sym (append_assoc (ideal program input limits i).echoes heard (x ∷ rest)) ∙ ap (λ t. t ++ x ∷ rest) (sym shows.took_so)
+        all = asked_echoes program input limits sites i m q here h ∙ ap (λ t. (ideal program input limits i).echoes ++ t) acks ∙ sym (append_assoc (ideal program input limits i).echoes heard (x ∷ rest)) ∙ ap (λ t. t ++ x ∷ rest) (sym shows.took_so)
 
         next : (mt : Meet) → LeadMeets program input limits sites past mt → (word : ℕ) → mt ≡ Got word → word ≡ x
         next Plain r word e = absurd (cc)
@@ -235,18 +234,15 @@ module _ (program : MidProgram) (input : List ℕ) (limits : Limits) (sites : Ha
       next_check xs rest x took all Closed r word e = absurd (cc)
       next_check xs rest x took all (Failed written) r word e = absurd (cc)
 
-      asked : (m : Machine) (q : Request) → (ideal program input limits i).place ≡ Here m → wants program m ≡ Requests q → (ideal program input limits (suc i)).words ≡ (ideal program input limits i).words ++ checks_of q
-      asked m q here h = ap (λ d. d.words) (next_asks program (ideal program input limits i) m q here (stands_point program input limits sites i m here) h)
-
       pub trail_lowers : TrailAt program (ideal program input limits i) quit past → CanMeet Trail program s past.world meet → TrailMeets program input limits sites quit past meet → Lower program Trail s past.world meet
       trail_lowers (TrailStarts m here tells) can right =
           lower_there Trail _ _ tells.at_so refl can
           (λ can'. trail_start program m (stands_point program input limits sites i m here) _ (wants program m) refl meet can'
-          (λ q y rest word h checks got. next_check (ideal program input limits i).words rest y (sym tells.took_so) (asked m q here h ∙ ap (λ t. (ideal program input limits i).words ++ t) checks) meet right word got))
+          (λ q y rest word h checks got. next_check (ideal program input limits i).words rest y (sym tells.took_so) (asked_words program input limits sites i m q here h ∙ ap (λ t. (ideal program input limits i).words ++ t) checks) meet right word got))
       trail_lowers (TrailChecks m q done x rest here h checks tells) can right =
           lower_there Trail _ _ tells.at_so refl can
           (λ can'. trail_check program m (stands_point program input limits sites i m here) _ q h done x rest checks meet can'
-          (next_check ((ideal program input limits i).words ++ done) rest x (sym tells.took_so) (asked m q here h ∙ ap (λ t. (ideal program input limits i).words ++ t) checks ∙ sym (append_assoc (ideal program input limits i).words done (x ∷ rest))) meet right))
+          (next_check ((ideal program input limits i).words ++ done) rest x (sym tells.took_so) (asked_words program input limits sites i m q here h ∙ ap (λ t. (ideal program input limits i).words ++ t) checks ∙ sym (append_assoc (ideal program input limits i).words done (x ∷ rest))) meet right))
       trail_lowers (TrailAcks m q here h tells) can right =
           lower_there Trail _ _ tells.at_so refl can
           (trail_acks_on program m (stands_point program input limits sites i m here) _ q h (ask (ideal program input limits i).world q).response (resume program m (ask (ideal program input limits i).world q).response) refl meet)

@@ -11,8 +11,9 @@ use Rattle.machine.specs.declared.thread_end.Stepped.TheVariants.{NotYet, Ended 
 use Rattle.machine.specs.Side.{SideState, Meet, Plain, Outcome, Went, Ended}
 use Rattle.machine.specs.Steps.{side_op, takes_at, may_send_at}
 use Rattle.machine.specs.Meets.{next_of}
-use Rattle.pair_core.specs.Duo.{DuoState, opening_duo, View, view_of, Finds, Waits, Meets, meet_by, finds_room, is_crowded, finds_by, finds, stepped_of, turn_found, turn_at, turn_of, Entry, Scheduled, run_on, Reached}
+use Rattle.pair_core.specs.Duo.{DuoState, opening_duo, View, view_of, Finds, Waits, Meets, meet_by, finds_room, is_crowded, finds_by, finds, turn_found, turn_at, turn_of, Entry, Scheduled, run_on, Reached}
 use Rattle.pair_core.specs.Laws.{CanGo}
+use Rattle.pair_core.proofs.Finding.{stepped_made}
 use Rattle.pair_core.proofs.Sounds.{sound_reached}
 
 pub reached_opening : (program : MidProgram) (input : List ℕ) (limits : Limits) → Reached program input limits (opening_duo program input limits) []
@@ -33,10 +34,6 @@ reached_turn program input limits duo events reached side fails =
     )
 
 -- what waits is left as it is
-stepped_made : (o : Outcome) → stepped_of o ≡ NotYet → ⊥
-stepped_made (Went s) h = cc
-stepped_made (Ended end) h = cc
-
 waits_found : (side : Side) (program : MidProgram) (s : SideState) (duo : DuoState) (f : Finds) → (turn_found f side program s duo).stepped ≡ NotYet → (f ≡ Waits) × ((turn_found f side program s duo).state ≡ duo) × ((turn_found f side program s duo).events ≡ [])
 waits_found side program s duo Waits h = (refl, refl, refl)
 waits_found side program s duo (Meets meet left) h = absurd (stepped_made (next_of side program s duo.world meet).outcome h)

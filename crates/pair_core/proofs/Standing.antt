@@ -8,7 +8,6 @@ use Rattle.srmt_base.specs.declared.side.Side.TheVariants.{Lead, Trail}
 use Rattle.mid_code.specs.declared.program.MidProgram.{MidProgram}
 use Rattle.mid_code.specs.Pairs.{HasSites}
 use Rattle.world.specs.Ideal.{ideal}
-use Rattle.machine.specs.declared.thread_end.Stepped.TheVariants.{NotYet}
 use Rattle.machine.specs.Side.{SideState, Outcome, Went, Ended}
 use Rattle.machine.specs.Steps.{side_op, takes_at, may_send_at}
 use Rattle.machine.specs.Meets.{next_of}
@@ -18,12 +17,8 @@ use Rattle.pair_core.specs.Laws.{CanGo}
 use Rattle.pair_core.proofs.Prefixes.{prefix_length}
 use Rattle.pair_core.proofs.Ideals.{grows}
 use Rattle.pair_core.proofs.Bounds.{lead_hearing, lead_resting, trail_echoes, trail_checking, trail_acking}
-use Rattle.pair_core.proofs.Finding.{Why, Hungry, Crowded, why}
+use Rattle.pair_core.proofs.Finding.{stepped_made, Why, Hungry, Crowded, why}
 use Rattle.pair_core.proofs.Duos.{Good, Quits}
-
-stepped_made : (o : Outcome) → stepped_of o ≡ NotYet → ⊥
-stepped_made (Went s) h = cc
-stepped_made (Ended end) h = cc
 
 -- a side that has not ended can go, or waits for a reason
 module _ (side : Side) (program : MidProgram) (duo : DuoState) (s : SideState) (at : (view_of side duo).at ≡ Went s) where

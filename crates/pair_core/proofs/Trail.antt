@@ -9,6 +9,7 @@ use Rattle.mid_code.specs.Pairs.{HasSites}
 use Rattle.word_stream.specs.declared.request.Request.{Request}
 use Rattle.word_stream.specs.declared.request.Response.{Response}
 use Rattle.word_stream.specs.Exchange.{response_words, checks_of}
+use Rattle.word_stream.proofs.Spelled.{no_words}
 use Rattle.world.specs.World.{ask}
 use Rattle.world.specs.Requests.{Wants, Runs, Dies, Requests, Lost, wants, Resumed, Back, Over, resume}
 use Rattle.world.specs.Ideal.{Here, Owed, Ended as PlaceEnded, IdealState, place_by, words_owed, owed_next, ideal}
@@ -19,11 +20,12 @@ use Rattle.machine.specs.Meets.{next_of, CanMeet}
 use Rattle.pair_core.specs.History.{Past, word_met, grown}
 use Rattle.pair_core.specs.Fit.{IsPrefix}
 use Rattle.pair_core.specs.Laws.{end_as}
+use Rattle.pair_core.proofs.Pasts.{same_state}
 use Rattle.pair_core.proofs.Prefixes.{prefix_trans, next_of_two}
 use Rattle.pair_core.proofs.Groups.{Stands, next_line, trail_side, never_dies, never_lost}
 use Rattle.pair_core.proofs.Steps.{trail_goes, trail_runs_takes}
-use Rattle.pair_core.proofs.Exchanges.{checks_some, none_answered, trail_checks, trail_checks_takes, trail_closed, trail_acks_back, trail_acks_over, trail_acks_takes, trail_ends, trail_ends_takes}
-use Rattle.pair_core.proofs.Ideals.{answered_state, next_runs, next_asks, next_twice, next_owed, grows, stands_owed, stands_point}
+use Rattle.pair_core.proofs.Exchanges.{checks_some, trail_checks, trail_checks_takes, trail_closed, trail_acks_back, trail_acks_over, trail_acks_takes, trail_ends, trail_ends_takes}
+use Rattle.pair_core.proofs.Ideals.{answered_state, next_runs, next_asks, next_twice, next_owed, grows, stands_owed, stands_point, asked_words}
 
 -- what a history shows to the other side
 pub record Tells (past : Past) (at : Outcome) (took sent : List ℕ) : Type 0 where
@@ -36,8 +38,7 @@ tells_on : (program : MidProgram) (past : Past) (s s' : SideState) (meet : Meet)
     gives.outcome ≡ at' → took ++ word_met meet ≡ took' → sent ++ gives.sent ≡ sent' →
     Tells (grown past meet (next_of Trail program s' past.world meet)) at' took' sent'
 tells_on program past s s' meet took sent gives at' took' sent' tells at law d e f =
-    let same : s' ≡ s = let both : Went s' ≡ Went s = sym at ∙ tells.at_so in cc in
-    let made : trail_next program s' past.world meet ≡ gives = ap (λ x. trail_next program x past.world meet) same ∙ law in
+    let made : trail_next program s' past.world meet ≡ gives = ap (λ x. trail_next program x past.world meet) (same_state past s' s at tells.at_so) ∙ law in
     record {
       at_so = ap (λ x. x.outcome) made ∙ d;
       took_so = ap (λ x. x ++ word_met meet) tells.took_so ∙ e;
@@ -99,8 +100,7 @@ module _ (program : MidProgram) (input : List ℕ) (limits : Limits) (sites : Ha
 
     can_there : (s₀ : SideState) (took sent : List ℕ) (meet : Meet) → Tells past (Went s₀) took sent → CanMeet Trail program s past.world meet → CanMeet Trail program s₀ past.world meet
     can_there s₀ took sent meet tells can =
-        let same : s ≡ s₀ = let both : Went s ≡ Went s₀ = sym at ∙ tells.at_so in cc in
-        subst (λ x. CanMeet Trail program x past.world meet) same can
+        subst (λ x. CanMeet Trail program x past.world meet) (same_state past s s₀ at tells.at_so) can
 
     -- a word that is right
     checked : (m : Machine) (q : Request) (done : List ℕ) (x : ℕ) (rest : List ℕ) → c.place ≡ Here m → wants program m ≡ Requests q → checks_of q ≡ done ++ x ∷ rest →
@@ -140,7 +140,7 @@ module _ (program : MidProgram) (input : List ℕ) (limits : Limits) (sites : Ha
     from_check m q done x rest here h checks tells (Got word) can right =
         let stands = stands_point program input limits sites i m here in
         let all : (ideal program input limits (suc i)).words ≡ (c.words ++ done) ++ x ∷ rest =
-        ap (λ d. d.words) (next_asks program c m q here stands h) ∙ ap (λ t. c.words ++ t) checks ∙ sym (append_assoc c.words done (x ∷ rest)) in
+        asked_words program input limits sites i m q here h ∙ ap (λ t. c.words ++ t) checks ∙ sym (append_assoc c.words done (x ∷ rest)) in
         let same : word ≡ x = next_word (suc i) right.0 (c.words ++ done) rest word x (subst (λ t. IsPrefix (t ++ word ∷ []) (ideal program input limits right.0).words) tells.took_so right.1) all in
         subst (λ y. TrailGoes (after (Got y))) (sym same) (checked m q done x rest here h checks tells)
 
@@ -176,7 +176,7 @@ module _ (program : MidProgram) (input : List ℕ) (limits : Limits) (sites : Ha
     acked m q here h tells (Back next) back =
         let stands = stands_point program input limits sites i m here in
         let r = (ask c.world q).response in
-        let words : (c.words ++ checks_of q) ++ [] ≡ (c.words ++ checks_of q) ++ response_words q r = ap (λ t. (c.words ++ checks_of q) ++ t) (sym (none_answered program m stands q h r)) in
+        let words : (c.words ++ checks_of q) ++ [] ≡ (c.words ++ checks_of q) ++ response_words q r = ap (λ t. (c.words ++ checks_of q) ++ t) (sym (no_words q r)) in
         let place : (answered_state program m q c).place ≡ Here next = ap place_by back in (
           suc (suc i),
           subst (λ d. TrailAt program d quit (after Plain)) (sym (next_twice program c m q here stands h)) (TrailStarts next place
@@ -214,7 +214,7 @@ module _ (program : MidProgram) (input : List ℕ) (limits : Limits) (sites : Ha
     from_ending m q r end owed h over tells Plain can =
         let stands = stands_owed program input limits sites i m r owed in
         let place : (owed_next program m r c).place ≡ PlaceEnded end = ap place_by over in
-        let words : c.words ++ [] ≡ c.words ++ words_owed (wants program m) r = ap (λ t. c.words ++ t) (sym (ap (λ x. words_owed x r) h ∙ none_answered program m stands q h r)) in (
+        let words : c.words ++ [] ≡ c.words ++ words_owed (wants program m) r = ap (λ t. c.words ++ t) (sym (ap (λ x. words_owed x r) h ∙ no_words q r)) in (
           suc i,
           subst (λ d. TrailAt program d quit (after Plain)) (sym (next_owed program c m r owed)) (TrailEnded end place
               (tells_on program past _ s Plain _ _ _ _ _ _ tells at (trail_ends program m stands q h past.world r end over) refl words (append-nil _))),

@@ -14,7 +14,7 @@ use Rattle.mid_code.specs.Pairs.{HasSites}
 use Rattle.mid_code.specs.Meaning.{State, Step, On, Ends, Stuck, reach, step_by, step}
 use Rattle.word_stream.specs.declared.request.Response.{Response}
 use Rattle.world.specs.World.{WorldState, ask}
-use Rattle.world.proofs.Plain.{IsAsked, Settles, main_within}
+use Rattle.world.proofs.Plain.{IsAsked, Settles, is_main}
 use Rattle.world.specs.Requests.{Wants, Runs, Dies, Requests, Lost, wants, wants_by, next_site, wants_access, Resumed, Back, Over, resumed, resume, resume_by}
 
 -- the step that ends with the taking of a response
@@ -61,7 +61,7 @@ main_named program None = refl
 main_named program (Some f) = refl
 
 pub starts_within : (program : MidProgram) (limits : Limits) → HasSites program → Stays program (started_machine program limits)
-starts_within program limits sites = subst (λ f. f ≤ program.main_functions) (sym (main_named program (function_at program program.main))) (main_within program sites)
+starts_within program limits sites = subst (λ f. f ≤ program.main_functions) (sym (main_named program (function_at program program.main))) (is_main program sites.valid).of_main_file
 
 abbrev pub StayOn : MidProgram → Wants → Type 0
 StayOn program (Runs next) = Stays program next

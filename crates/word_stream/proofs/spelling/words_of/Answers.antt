@@ -1,4 +1,4 @@
-use Rattle.std.proofs.Common.{◌≡◌, ap, ◌∙◌, sym, subst, [], ◌∷◌, ◌++◌}
+use Rattle.std.proofs.Common.{ap, ◌∙◌, sym, [], ◌∷◌, ◌++◌}
 use Rattle.word_stream.proofs.Spelled.{spells_either, small-one, exchange-one}
 use Rattle.word_stream.proofs.spelling.words_of.Goals as goal
 
