@@ -24,7 +24,8 @@ use Rattle.mid_code.specs.Fits.{IsValue}
 use Rattle.mid_code.specs.Start.{full_budget}
 use Rattle.mid_code.proofs.Values.{one_within, first_registers}
 use Rattle.mid_code.proofs.Fetching.{fetch, group_of}
-use Rattle.world.proofs.Plain.{is_main, with_main}
+use Rattle.mid_code.proofs.Starting.{with_main}
+use Rattle.world.proofs.Plain.{is_main}
 use Rattle.machine.specs.Side.{SideState, opening}
 use Rattle.machine.specs.Steps.{versions_of, passed_on}
 use Rattle.machine.specs.Fits.{HeardFits, SideFits}

@@ -1,5 +1,5 @@
 -- What an instruction of a valid program does leads to a machine that stands within its program.
-use Rattle.std.proofs.Common.{◌≡◌, ◌≢◌, ℕ, zero, suc, ◌+◌, ◌-◌, ◌<◌, ◌≤◌, ◌^◌, List, [], ◌∷◌, length, Option, Some, None, Result, Ok, Err, Bool, true, false, refl, sym, ap, ◌∙◌, subst, arith}
+use Rattle.std.proofs.Common.{◌≡◌, ◌≢◌, ℕ, ◌+◌, ◌-◌, ◌<◌, ◌≤◌, ◌^◌, List, [], ◌∷◌, length, Option, Some, None, Result, Ok, Err, Bool, true, false, refl, sym, ap, ◌∙◌, subst, arith}
 use Rattle.std.specs.Prelude.{All, IfOk, not, ◌==◌, if◌then◌else◌, map, drop, slice_set, slice_get}
 use Rattle.std.proofs.lemmas.Bool.{and_parts, not-false, eqb-true, eqb-false, leb-false, both_ways}
 use Rattle.std.proofs.lemmas.List.{length-set, length-map}
@@ -31,7 +31,7 @@ use Rattle.mid_code.proofs.Keeping.{KeepsRules, neither}
 use Rattle.mid_code.proofs.Values.{read_small, reads_small, wider, first_registers}
 use Rattle.mid_code.proofs.Standing.{top_changed, turn_counted, entered_fits, left_fits}
 use Rattle.mid_code.proofs.Flowing.{in_order, first_entered, second_entered, none_at_start, followed}
-use Rattle.mid_code.proofs.Naming.{static_small, callable_small, callee_of, function_kept, args_room, first_there}
+use Rattle.mid_code.proofs.Naming.{not_zero, static_small, callable_small, callee_of, function_kept, args_room, first_there}
 
 -- the instruction wants what it may, and the machine stands within the program after it
 abbrev pub AccessFits : MidProgram → Machine → Access → Type 0
@@ -95,10 +95,6 @@ if_fits : (program : MidProgram) (m : Machine) (b : Bool) (d e : Does) → (b �
 if_fits program m true d e taken not_taken = taken refl
 if_fits program m false d e taken not_taken = not_taken refl
 
-at_least_one : (n : ℕ) → (n == 0) ≡ false → 1 ≤ n
-at_least_one zero h = absurd (eqb-false 0 0 h refl)
-at_least_one (suc n) h = omega arith
-
 -- a jump leads within the code
 target_within : (f : MidFunction) (place target : ℕ) → is_bad_target f.code place target ≡ false → target < length f.code
 target_within f place target h = leb-false (length f.code) target (neither _ _ h).0
@@ -127,7 +123,7 @@ entering : (program : MidProgram) (m : Machine) (h : IsMachine program m) (part 
 entering program m h part line callee own within behind_it room =
     if_fits program m ((budget_of part m).depth == 0) (Traps Depth line) (if (budget_of part m).turns == 0 then Traps Turns line else Goes (entered part callee m)) (λ _. tt)
     (λ some. if_fits program m ((budget_of part m).turns == 0) (Traps Turns line) (Goes (entered part callee m)) (λ _. tt)
-    (λ _. entered_fits program m part callee (record m.top { place = m.top.place + 1 }) h own within behind_it refl refl room (at_least_one (budget_of part m).depth some)))
+    (λ _. entered_fits program m part callee (record m.top { place = m.top.place + 1 }) h own within behind_it refl refl room (not_zero (budget_of part m).depth some)))
 
 -- a function as it begins
 begins : (program : MidProgram) (number : ℕ) (f : MidFunction) (into : ℕ) (values : List ℕ) → IsValid program → function_at program number ≡ Some f → length values ≤ length f.kinds → All IsValue values → IsWithin program (activation_of number f into values)
@@ -230,7 +226,7 @@ close_fits program m h place line (newest ∷ older) is k =
 
 open_fits : (program : MidProgram) (m : Machine) (h : IsMachine program m) (target cells : ℕ) → Keeps program m.top h.top (Open target cells) → AccessFits program m (Opens target cells)
 open_fits program m h target cells k = (
-  at_least_one cells k.bounded,
+  not_zero cells k.bounded,
   λ number small. top_changed program m (record m.top { place = m.top.place + 1; registers = slice_set m.top.registers target (pointer_to number 0); opened = record { place = m.top.place; number = number } ∷ m.top.opened }) h refl refl
       (behind program m.top h.top (Open target cells) [] (slice_set m.top.registers target (pointer_to number 0)) (record { place = m.top.place; number = number } ∷ m.top.opened) k refl refl (length-set m.top.registers target (pointer_to number 0)) (All-set IsValue m.top.registers target (pointer_to number 0) small h.top.each) refl),
 )

@@ -1,7 +1,7 @@
 -- Budgets are counted exactly.
 use Rattle.std.proofs.Common.{◌≡◌, ℕ, zero, suc, ◌+◌, ◌-◌, ◌≤◌, List, [], ◌∷◌, Option, Some, None, Result, Ok, Err, Bool, true, false, refl, sym, ap, subst, arith}
 use Rattle.std.specs.Prelude.{IfErr, ◌==◌, not, if◌then◌else◌, slice_set}
-use Rattle.std.proofs.lemmas.Bool.{eqb-false, ne_eqb}
+use Rattle.std.proofs.lemmas.Bool.{ne_eqb}
 use Rattle.srmt_base.specs.declared.event.Event.{Event}
 use Rattle.srmt_base.specs.declared.trap.Trap.{Trap}
 use Rattle.srmt_base.specs.declared.trap.Trap.TheVariants.{NullPointer, NotAFunction, Turns, Depth}
@@ -19,6 +19,7 @@ use Rattle.mid_code.specs.Program.{function_at, line_at}
 use Rattle.mid_code.specs.Machine.{Opened, Activation, Machine, Does, Goes, Traps, Reaches, Lost, register, arguments, activations, live_of, passed, given, given_object, passed_close, gives, moved_if, part_of_function, budget_of, with_budget, counts, activation_of, entered, enters, calls, is_callee, calls_value, leaves, closes, act, act_at, does}
 use Rattle.mid_code.specs.Meaning.{State, Step, On, Ends, Stuck, after_read, after_write, after_begin, after_get, own_part, reach, step, step_by}
 use Rattle.mid_code.specs.Counting.{Counting, Uncounted, OneTurn, OneActivation, entry_of, counting_of, counting_at, next_counting, turns_of}
+use Rattle.mid_code.proofs.Naming.{not_zero}
 use Rattle.mid_code.proofs.Standing.{live_same, live_more}
 use Rattle.mid_code.proofs.Trapping.{IsOther, arith_other, sum_other, difference_other, comparison_other}
 
@@ -128,10 +129,6 @@ pub record AfterCount (program : MidProgram) (m next : Machine) (c : Counting) (
 quiet_after : (program : MidProgram) (m next : Machine) (part : Part) → SameBudgets program m next part → AfterCount program m next Uncounted part
 quiet_after program m next part h = record { turns = omega (arith, h.turns); depth = h.depth }
 
-pub at_least_one : (n : ℕ) → (n == 0) ≡ false → 1 ≤ n
-at_least_one zero h = absurd (eqb-false 0 0 h refl)
-at_least_one (suc n) h = omega arith
-
 turn_after : (program : MidProgram) (m : Machine) (own : Part) (line : ℕ) → 1 ≤ (budget_of own m).turns → (part : Part) → AfterCount program m (passed (with_budget own (record (budget_of own m) { turns = (budget_of own m).turns - 1 }) m)) (OneTurn own line) part
 turn_after program m Protected line some Protected = record { turns = omega (arith, some); depth = refl }
 turn_after program m Protected line some Binary = record { turns = omega arith; depth = refl }
@@ -191,12 +188,12 @@ goes_by program s Uncounted Lost h = tt
 goes_by program s (OneTurn own line) d h = rw h (by ((budget_of own s.machine).turns == 0) refl) where
   by : (b : Bool) → ((budget_of own s.machine).turns == 0) ≡ b → IfGoesOn program s.machine (OneTurn own line) (step_by program (if b then Traps Turns line else Goes (passed (with_budget own (record (budget_of own s.machine) { turns = (budget_of own s.machine).turns - 1 }) s.machine))) s)
   by true e = tt
-  by false e = turn_after program s.machine own line (at_least_one (budget_of own s.machine).turns e)
+  by false e = turn_after program s.machine own line (not_zero (budget_of own s.machine).turns e)
 goes_by program s (OneActivation own line) d h = rw (h.1) (by ((budget_of own s.machine).depth == 0) ((budget_of own s.machine).turns == 0) refl refl) where
   by : (b c : Bool) → ((budget_of own s.machine).depth == 0) ≡ b → ((budget_of own s.machine).turns == 0) ≡ c → IfGoesOn program s.machine (OneActivation own line) (step_by program (if b then Traps Depth line else if c then Traps Turns line else Goes (entered own h.0 s.machine)) s)
   by true c deep some = tt
   by false true deep some = tt
-  by false false deep some = entry_after program s.machine own line h.0 h.2 (at_least_one (budget_of own s.machine).turns some) (at_least_one (budget_of own s.machine).depth deep)
+  by false false deep some = entry_after program s.machine own line h.0 h.2 (not_zero (budget_of own s.machine).turns some) (not_zero (budget_of own s.machine).depth deep)
 
 pub step_goes : (program : MidProgram) (s : State) → IfGoesOn program s.machine (next_counting program s.machine) (step program s)
 step_goes program s = goes_by program s (next_counting program s.machine) (does program s.machine) (does_counted program s.machine)

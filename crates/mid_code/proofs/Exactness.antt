@@ -1,5 +1,5 @@
 -- A budget trap comes exactly where one more unit would pass the limit.
-use Rattle.std.proofs.Common.{◌≡◌, ℕ, zero, suc, ◌+◌, ◌-◌, ◌<◌, ◌⊎◌, List, [], ◌∷◌, Option, Some, None, Result, Ok, Err, Bool, true, false, inl, inr, refl, sym, ap, ◌∙◌, subst, arith}
+use Rattle.std.proofs.Common.{◌≡◌, ℕ, zero, suc, ◌+◌, ◌-◌, ◌<◌, ◌⊎◌, List, [], ◌∷◌, Result, Ok, Err, Bool, true, false, inl, inr, refl, sym, ap, ◌∙◌, subst, arith}
 use Rattle.std.specs.Prelude.{IfErr, ◌==◌, if◌then◌else◌}
 use Rattle.std.proofs.lemmas.Bool.{eqb-true, eq-eqb, ne_eqb, true≢false}
 use Rattle.srmt_base.specs.declared.event.Event.{Event}
@@ -8,7 +8,6 @@ use Rattle.srmt_base.specs.declared.trap.Trap.{Trap}
 use Rattle.srmt_base.specs.declared.trap.Trap.TheVariants.{Turns, Depth, Store as StoreTrap}
 use Rattle.srmt_base.specs.declared.trap.SourceEnd.TheVariants.{Exit as ExitEnd, Trap as TrapEnd}
 use Rattle.srmt_base.specs.Memory.{Memory, Part, Protected, Binary, read_of, write_of, begin_of, next_number}
-use Rattle.mid_code.specs.declared.program.MidFunction.{MidFunction}
 use Rattle.mid_code.specs.declared.program.MidProgram.{MidProgram}
 use Rattle.mid_code.specs.declared.access.Access.{Access}
 use Rattle.mid_code.specs.declared.access.Access.TheVariants.{Loads, Stores, VolatileLoads, VolatileStores, Opens, Closes, Puts, Gets, Exits}
@@ -18,11 +17,11 @@ use Rattle.mid_code.specs.Meaning.{State, Step, On, Ends, Stuck, Run, Running, E
 use Rattle.mid_code.specs.Start.{main_activation, started_machine}
 use Rattle.mid_code.specs.Counting.{Counting, Uncounted, OneTurn, OneActivation, next_counting, turns_of, after_step, turns_in, turns_so_far, CountsExactly}
 use Rattle.mid_code.specs.Laws.{CanRun}
-use Rattle.mid_code.proofs.Naming.{whole}
-use Rattle.mid_code.proofs.Starting.{main_part}
+use Rattle.mid_code.proofs.Naming.{not_zero, whole}
+use Rattle.mid_code.proofs.Starting.{main_function, main_part}
 use Rattle.mid_code.proofs.Trapping.{is_counted, IsOther, uncounted, read_other, write_other, begin_store}
 use Rattle.mid_code.proofs.Placing.{HasCells, cells_after, store_forward, store_back}
-use Rattle.mid_code.proofs.Counting.{Quiet, Counted, AfterCount, IfGoesOn, step_goes, does_counted, at_least_one}
+use Rattle.mid_code.proofs.Counting.{Quiet, Counted, AfterCount, IfGoesOn, step_goes, does_counted}
 
 -- what was counted of a part and what is left to it make up its limits
 record Balanced (program : MidProgram) (limits : Limits) (turns : Part → ℕ) (s : State) : Type 0 where
@@ -145,7 +144,7 @@ module _ (program : MidProgram) (limits : Limits) (turns : Part → ℕ) (s : St
     by true c deep none f = absurd (cc)
     by false true deep none f =
         let same : at ≡ line = cc in
-        (own, omega (arith, balanced.turns_left own, eqb-true (budget_of own s.machine).turns 0 none), inr (ap (OneActivation own) same, omega (arith, balanced.depth_left own, at_least_one (budget_of own s.machine).depth deep)))
+        (own, omega (arith, balanced.turns_left own, eqb-true (budget_of own s.machine).turns 0 none), inr (ap (OneActivation own) same, omega (arith, balanced.depth_left own, not_zero (budget_of own s.machine).depth deep)))
     by false false deep some f = absurd (cc)
 
   turns_back : (line : ℕ) (c : Counting) (d : Does) → Counted program s.machine c d → ((part : Part) × (turns part ≡ limits.turns) × ((c ≡ OneTurn part line) ⊎ ((c ≡ OneActivation part line) × (live_of program part (activations s.machine) < limits.depth)))) → step_by program d s ≡ Ends (TrapEnd Turns line) []
@@ -174,10 +173,6 @@ module _ (program : MidProgram) (limits : Limits) (turns : Part → ℕ) (s : St
   }
 
 -- at the start the turn and the activation of `main` are counted
-main_function : (program : MidProgram) (f : Option MidFunction) → (main_activation program f).function ≡ program.main
-main_function program None = refl
-main_function program (Some f) = refl
-
 balanced_started : (program : MidProgram) (input : List ℕ) (limits : Limits) → CanRun program input limits → Balanced program limits (λ part. one_if part Protected) (started program input limits)
 balanced_started program input limits can =
     let own : part_of_function program (main_activation program (function_at program program.main)).function ≡ Protected = ap (part_of_function program) (main_function program (function_at program program.main)) ∙ main_part program (whole program can.valid) in

@@ -11,7 +11,7 @@ use Rattle.mid_code.specs.Flow.{entered, found_at, same_places, has_others, clos
 use Rattle.mid_code.specs.Rules.{is_final, runs_out}
 use Rattle.mid_code.proofs.Keeping.{KeepsRules, neither}
 
-same_places-true : (xs ys : List ℕ) → same_places xs ys ≡ true → xs ≡ ys
+pub same_places-true : (xs ys : List ℕ) → same_places xs ys ≡ true → xs ≡ ys
 same_places-true [] [] h = refl
 same_places-true [] (y ∷ ys) h = absurd (cc)
 same_places-true (x ∷ xs) [] h = absurd (cc)

@@ -27,7 +27,8 @@ pub record KeepsProgram (program : MidProgram) : Type 0 where
   pub main_statics : has_bad_statics program.main_statics ≡ false
   pub binary_statics : has_bad_statics program.binary_statics ≡ false
 
-not_zero : (n : ℕ) → (n == 0) ≡ false → 1 ≤ n
+-- a number that is not 0 is at least 1
+pub not_zero : (n : ℕ) → (n == 0) ≡ false → 1 ≤ n
 not_zero zero h = absurd (eqb-false 0 0 h refl)
 not_zero (suc n) h = omega arith
 
@@ -48,6 +49,13 @@ whole program valid =
       main_statics = first.1;
       binary_statics = statics.1;
     }
+
+-- `main` is there
+pub main_found : (program : MidProgram) → KeepsProgram program → (f : MidFunction) × (function_at program program.main ≡ Some f)
+main_found program k = found program.main k.some_main (omega (arith, k.main, k.main_functions)) where
+  found : (number : ℕ) → 1 ≤ number → number ≤ length program.functions → (f : MidFunction) × (function_at program number ≡ Some f)
+  found zero some within = absurd (omega arith)
+  found (suc before) some within = one_within program.functions before (omega (arith, within))
 
 -- each static object has a cell
 static_cell : (object : Static) → is_bad_static object ≡ false → 1 ≤ object.cells

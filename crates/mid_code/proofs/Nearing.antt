@@ -1,7 +1,7 @@
 -- Each instruction brings a run nearer to its end.
-use Rattle.std.proofs.Common.{◌≡◌, ℕ, zero, suc, ◌+◌, ◌-◌, ◌<◌, ◌≤◌, ◌⊎◌, List, [], ◌∷◌, length, Option, Some, None, Result, Ok, Err, Bool, true, false, inl, inr, refl, sym, ap, ◌∙◌, subst, arith}
+use Rattle.std.proofs.Common.{◌≡◌, ℕ, ◌+◌, ◌-◌, ◌<◌, ◌≤◌, ◌⊎◌, List, [], ◌∷◌, length, Option, Some, None, Result, Ok, Err, Bool, true, false, inl, inr, refl, sym, ap, ◌∙◌, subst, arith}
 use Rattle.std.specs.Prelude.{◌==◌, ◌&&◌, not, nat_le, if◌then◌else◌, slice_get, slice_set}
-use Rattle.std.proofs.lemmas.Bool.{and_cases, eqb-false, leb-false, not-false}
+use Rattle.std.proofs.lemmas.Bool.{and_cases, leb-false, not-false}
 use Rattle.srmt_base.specs.declared.trap.Trap.{Trap}
 use Rattle.srmt_base.specs.declared.trap.Trap.TheVariants.{NullPointer, NotAFunction, Turns, Depth}
 use Rattle.srmt_base.specs.Arith.{arith_of}
@@ -19,7 +19,7 @@ use Rattle.mid_code.specs.Machine.{Opened, Activation, Machine, Does, Goes, Trap
 use Rattle.mid_code.specs.Bounds.{to_turn_in, to_turn, all_to_turn, left_to_go}
 use Rattle.mid_code.specs.Fits.{IsMachine}
 use Rattle.mid_code.proofs.Keeping.{neither}
-use Rattle.mid_code.proofs.Naming.{function_kept}
+use Rattle.mid_code.proofs.Naming.{not_zero, function_kept}
 use Rattle.mid_code.proofs.Acting.{Keeps}
 
 -- a place further on, or a `Turn`, is nearer to the next turn than a place that is none
@@ -77,10 +77,6 @@ way_of f place target h =
       | inr turn ↦ inr (not-false (is_turn (slice_get f.code target)) turn)
     ]
 
-at_least_one : (n : ℕ) → (n == 0) ≡ false → 1 ≤ n
-at_least_one zero h = absurd (eqb-false 0 0 h refl)
-at_least_one (suc n) h = omega arith
-
 either_nears : (program : MidProgram) (m : Machine) (b : Bool) (target : ℕ) → to_turn program (record m.top { place = target }) < to_turn program m.top → to_turn program (record m.top { place = m.top.place + 1 }) < to_turn program m.top → Nears program m (Goes (moved_if b target m))
 either_nears program m true target taken not_taken = top_nearer program m (record m.top { place = target }) taken
 either_nears program m false target taken not_taken = top_nearer program m (record m.top { place = m.top.place + 1 }) not_taken
@@ -96,11 +92,11 @@ counts_nears : (program : MidProgram) (m : Machine) (h : IsMachine program m) (l
 counts_nears program m h line valid Protected =
     let few = few_to_turn program (record m.top { place = m.top.place + 1 }) h.top.code valid h.top.found in
     if_nears program m (m.protected.turns == 0) (Traps Turns line) (Goes (passed (with_budget Protected (record m.protected { turns = m.protected.turns - 1 }) m))) (λ _. tt)
-    (λ some. omega (arith, few, at_least_one m.protected.turns some))
+    (λ some. omega (arith, few, not_zero m.protected.turns some))
 counts_nears program m h line valid Binary =
     let few = few_to_turn program (record m.top { place = m.top.place + 1 }) h.top.code valid h.top.found in
     if_nears program m (m.binary.turns == 0) (Traps Turns line) (Goes (passed (with_budget Binary (record m.binary { turns = m.binary.turns - 1 }) m))) (λ _. tt)
-    (λ some. omega (arith, few, at_least_one m.binary.turns some))
+    (λ some. omega (arith, few, not_zero m.binary.turns some))
 
 entered_nearer : (program : MidProgram) (m : Machine) (part : Part) (callee : Activation) → to_turn program callee ≤ 65535 → 1 ≤ (budget_of part m).turns → to_turn program (record m.top { place = m.top.place + 1 }) < to_turn program m.top → left_to_go program (entered part callee m) < left_to_go program m
 entered_nearer program m Protected callee few some near = omega (arith, few, some, near)
@@ -113,7 +109,7 @@ calls_nears program m number into (Some f) values valid found near =
     let callee = activation_of number f into values in
     if_nears program m ((budget_of part m).depth == 0) (Traps Depth f.line) (if (budget_of part m).turns == 0 then Traps Turns f.line else Goes (entered part callee m)) (λ _. tt)
     (λ _. if_nears program m ((budget_of part m).turns == 0) (Traps Turns f.line) (Goes (entered part callee m)) (λ _. tt)
-    (λ some. entered_nearer program m part callee (few_to_turn program callee f valid found) (at_least_one (budget_of part m).turns some) near))
+    (λ some. entered_nearer program m part callee (few_to_turn program callee f valid found) (not_zero (budget_of part m).turns some) near))
 
 -- the caller goes on where it stands
 left_nearer : (program : MidProgram) (m : Machine) (part : Part) (caller after : Activation) (rest : List Activation) → m.below ≡ caller ∷ rest → to_turn program after ≡ to_turn program caller → 1 ≤ to_turn program m.top →

@@ -4,12 +4,13 @@ use Rattle.std.specs.Prelude.{nat_lt, not, ◌==◌, ◌&&◌, ◌||◌, if◌th
 use Rattle.std.specs.List.{list_any}
 use Rattle.std.specs.Bool.{OnFalse}
 use Rattle.std.proofs.lemmas.Option.{slice_get_cases}
-use Rattle.std.proofs.lemmas.Bool.{cases_eq, cases_lt, cases_Bool, eqb-true, ltb-true, eq-eqb, ne_eqb}
+use Rattle.std.proofs.lemmas.Bool.{cases_eq, cases_lt, cases_Bool, not-false, eqb-true, ltb-true, eq-eqb, ne_eqb}
 use Rattle.mid_code.specs.declared.mid.Mid.{Mid}
 use Rattle.mid_code.specs.declared.mid.Mid.TheVariants.{Open, Close, Return}
 use Rattle.mid_code.specs.declared.program.MidLine.{MidLine}
 use Rattle.mid_code.specs.Flow.{goes_to, leaves, enters, entry, or_else, entered, found_at, same_places, has_others, closes_wrongly, enters_wrongly, breaks_order, breaks_order_by}
 use Rattle.mid_code.specs.Row.{number_of, Holds, left_number, number_closes_wrongly, row_after, has_other_number}
+use Rattle.mid_code.proofs.Flowing.{same_places-true}
 use Rattle.mid_code.proofs.FlowLemmas.{IsStacked, stacked, stacked_left, entered_after, stays}
 use Rattle.mid_code.proofs.RowLemmas.{kept_behind, kept_full, kept_other, filled}
 
@@ -39,20 +40,12 @@ same_refl : (a : List ℕ) → same_places a a ≡ true
 same_refl [] = refl
 same_refl (x ∷ xs) = ap (λ b. b && same_places xs xs) (eq-eqb x x refl) ∙ same_refl xs
 
-same_true : (a b : List ℕ) → same_places a b ≡ true → a ≡ b
-same_true [] [] h = refl
-same_true [] (y ∷ ys) h = absurd (cc)
-same_true (x ∷ xs) [] h = absurd (cc)
-same_true (x ∷ xs) (y ∷ ys) h =
-    let parts = and_true (x == y) (same_places xs ys) h in
-    ap (λ z. z ∷ xs) (eqb-true x y parts.0) ∙ ap (λ zs. y ∷ zs) (same_true xs ys parts.1)
-
 -- a place has other open objects exactly where it has another number
 others_found : (code : List MidLine) (n m : ℕ) (found left : List ℕ) → IsStacked code n found → IsStacked code m left → has_others (Some found) left ≡ not (number_of (Some found) == number_of (Some left))
 others_found code n m found left sf sl =
     elim (cases_Bool (same_places found left)) [
       | inl is_same ↦
-          let e : number_of (Some found) ≡ number_of (Some left) = ap (λ os. number_of (Some os)) (same_true found left is_same) in
+          let e : number_of (Some found) ≡ number_of (Some left) = ap (λ os. number_of (Some os)) (same_places-true found left is_same) in
           ap not is_same ∙ sym (ap not (eq-eqb (number_of (Some found)) (number_of (Some left)) e))
       | inr is_other ↦
           let differ : number_of (Some found) ≢ number_of (Some left) = λ e.
@@ -81,10 +74,6 @@ closes_number (Return source) [] = refl
 closes_number (Return source) (newest ∷ rest) = ap not (ne_eqb (newest + 2) 1 (λ e. omega arith))
 closes_number _ found = refl
 
-not_false : (b : Bool) → not b ≡ false → b ≡ true
-not_false true h = refl
-not_false false h = absurd (cc)
-
 -- what is left, by numbers
 left_close : (row : List ℕ) (code : List MidLine) (p begun newest : ℕ) (r : List ℕ) → Holds row code p → p < length code → found_at code p ≡ Some (newest ∷ r) → newest ≡ begun → slice_index row begun ≡ number_of (Some r)
 left_close row code p begun newest r holds within here same =
@@ -96,7 +85,7 @@ left_numbers : (row : List ℕ) (code : List MidLine) (p : ℕ) (mid : Mid) (fou
 left_numbers row code p (Open target cells) found holds within here right = refl
 left_numbers row code p (Close begun) [] holds within here right = absurd (cc)
 left_numbers row code p (Close begun) (newest ∷ r) holds within here right =
-    let closes : (newest == begun) ≡ true = not_false (newest == begun) right in
+    let closes : (newest == begun) ≡ true = not-false (newest == begun) right in
     left_close row code p begun newest r holds within here (eqb-true newest begun closes) ∙ ap (λ b. number_of (Some (if b then r else newest ∷ r))) (sym closes)
 left_numbers row code p _ found holds within here right = refl
 

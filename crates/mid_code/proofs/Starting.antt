@@ -1,8 +1,8 @@
 -- The start of a run fits its program.
-use Rattle.std.proofs.Common.{◌≡◌, ℕ, zero, suc, ◌+◌, ◌-◌, ◌<◌, ◌≤◌, ◌^◌, List, [], ◌∷◌, length, Option, Some, None, false, refl, sym, ap, subst, arith}
+use Rattle.std.proofs.Common.{◌≡◌, ℕ, ◌+◌, ◌-◌, ◌<◌, ◌≤◌, ◌^◌, List, [], ◌∷◌, length, Option, Some, None, false, refl, sym, ap, subst, arith}
 use Rattle.std.specs.Prelude.{All, ◌==◌, ◌||◌, nat_lt, nat_le, replicate, sum_by}
 use Rattle.std.specs.List.{list_any}
-use Rattle.std.proofs.lemmas.Bool.{ltb-false, leb-false, le-leb, eqb-false}
+use Rattle.std.proofs.lemmas.Bool.{ltb-false, leb-false, le-leb}
 use Rattle.std.proofs.lemmas.List.{length-append, length-replicate}
 use Rattle.std.proofs.lemmas.List.Elements.{All-append, All-replicate, All-cons, All-nil}
 use Rattle.std.proofs.lemmas.List.Sums.{sum_by-cons}
@@ -20,9 +20,9 @@ use Rattle.mid_code.specs.Start.{static_cells, FitLimits, static_object, static_
 use Rattle.mid_code.specs.Meaning.{started}
 use Rattle.mid_code.specs.Fits.{IsValue, HoldsValues, AreRising, IsWithin, IsPart, IsMemory, IsMachine, Fits, open_count}
 use Rattle.mid_code.proofs.Keeping.{neither}
-use Rattle.mid_code.proofs.Values.{one_within, first_registers}
+use Rattle.mid_code.proofs.Values.{first_registers}
 use Rattle.mid_code.proofs.Flowing.{none_at_start}
-use Rattle.mid_code.proofs.Naming.{KeepsProgram, whole, few_statics, function_kept}
+use Rattle.mid_code.proofs.Naming.{KeepsProgram, not_zero, main_found, whole, few_statics, function_kept}
 
 -- what the tests of a static object say
 record GoodStatic (object : Static) : Type 0 where
@@ -35,10 +35,6 @@ values_small [] h = All-nil IsValue
 values_small (v ∷ vs) h =
     let both = neither (nat_le (2 ^ 44) v) (list_any (λ value. nat_le (2 ^ 44) value) vs) h in
     All-cons IsValue v vs (leb-false (2 ^ 44) v both.0) (values_small vs both.1)
-
-not_zero : (n : ℕ) → (n == 0) ≡ false → 1 ≤ n
-not_zero zero h = absurd (eqb-false 0 0 h refl)
-not_zero (suc n) h = omega arith
 
 good_static : (object : Static) → is_bad_static object ≡ false → GoodStatic object
 good_static object h =
@@ -97,13 +93,6 @@ memory_started program limits k fit = record {
   binary = started_part Binary program.binary_statics limits.cells k.binary_statics fit.binary_cells fit.cells (omega arith);
 }
 
--- `main` is there
-main_found : (program : MidProgram) → KeepsProgram program → (f : MidFunction) × (function_at program program.main ≡ Some f)
-main_found program k = found program.main k.some_main (omega (arith, k.main, k.main_functions)) where
-  found : (number : ℕ) → 1 ≤ number → number ≤ length program.functions → (f : MidFunction) × (function_at program number ≡ Some f)
-  found zero some within = absurd (omega arith)
-  found (suc before) some within = one_within program.functions before (omega (arith, within))
-
 main_within : (program : MidProgram) (f : MidFunction) → IsValid program → function_at program program.main ≡ Some f → IsWithin program (activation_of program.main f 0 [])
 main_within program f valid found =
     let k = function_kept program program.main f valid found in
@@ -121,8 +110,13 @@ main_within program f valid found =
 pub main_part : (program : MidProgram) → KeepsProgram program → part_of_function program program.main ≡ Protected
 main_part program k = ap part_if (le-leb program.main program.main_functions k.main)
 
--- the machine at the start, with `main` on top
-abbrev with_main : MidProgram → Limits → Option MidFunction → Machine
+-- the activation of `main`
+pub main_function : (program : MidProgram) (f : Option MidFunction) → (main_activation program f).function ≡ program.main
+main_function program None = refl
+main_function program (Some f) = refl
+
+-- the machine at the start, by the code of `main`
+abbrev pub with_main : MidProgram → Limits → Option MidFunction → Machine
 with_main program limits f =
     record { top = main_activation program f; below = []; protected = spent (full_budget limits); binary = full_budget limits }
 

@@ -29,7 +29,8 @@ use Rattle.mid_code.proofs.Fetching.{version_place, group_of, fetch, moved-next}
 use Rattle.mid_code.proofs.Flowing.{followed}
 use Rattle.mid_code.proofs.Keeping.{keeps}
 use Rattle.mid_code.proofs.Values.{one_within}
-use Rattle.world.proofs.Plain.{plain_line, is_main, with_main}
+use Rattle.mid_code.proofs.Starting.{with_main}
+use Rattle.world.proofs.Plain.{plain_line, is_main}
 use Rattle.word_stream.specs.declared.request.Request.{Request}
 use Rattle.word_stream.specs.declared.request.Request.TheVariants.{Put as PutAsked, Exit as ExitAsked}
 use Rattle.word_stream.specs.declared.request.Response.{Response}

@@ -1,10 +1,9 @@
 -- Programs of the first form, of which pairs are made: what their instructions can be, where they
 -- lead, and where the run begins.
-use Rattle.std.proofs.Common.{◌≡◌, ℕ, zero, suc, ◌<◌, ◌≤◌, [], length, Option, Some, None, refl, sym, ◌∙◌, arith, slice_get, All}
+use Rattle.std.proofs.Common.{◌≡◌, ℕ, zero, suc, ◌<◌, ◌≤◌, Option, Some, None, refl, sym, ◌∙◌, arith, slice_get, All}
 use Rattle.std.specs.Prelude.{option_and_then}
 use Rattle.std.proofs.lemmas.List.{length-take}
 use Rattle.std.proofs.lemmas.Option.{slice_get_within}
-use Rattle.srmt_base.specs.declared.limits.Limits.{Limits}
 use Rattle.mid_code.specs.declared.program.MidProgram.{MidProgram}
 use Rattle.mid_code.specs.declared.program.MidFunction.{MidFunction}
 use Rattle.mid_code.specs.declared.program.MidLine.{MidLine}
@@ -16,11 +15,10 @@ use Rattle.mid_code.specs.Program.{function_at, line_at}
 use Rattle.mid_code.specs.Classes.{protected_functions}
 use Rattle.mid_code.specs.Valid.{IsValid}
 use Rattle.mid_code.specs.Pairs.{IsOfFirstForm, HasSites}
-use Rattle.mid_code.specs.Machine.{Machine, Does, Goes, Traps, Reaches, Lost, spent, act, act_at, does}
-use Rattle.mid_code.specs.Start.{full_budget, main_activation}
+use Rattle.mid_code.specs.Machine.{Machine, Does, Goes, Traps, Reaches, Lost, act, act_at, does}
 use Rattle.mid_code.proofs.Fetching.{get_taken}
-use Rattle.mid_code.proofs.Naming.{whole}
-use Rattle.mid_code.proofs.Values.{found_one, one_within}
+use Rattle.mid_code.proofs.Naming.{main_found, whole}
+use Rattle.mid_code.proofs.Values.{found_one}
 
 -- a protected function is one of the program's, and its number is none above theirs
 pub protected_found : (program : MidProgram) (before : ℕ) (f : MidFunction) → slice_get (protected_functions program) before ≡ Some f → (function_at program (suc before) ≡ Some f) × (suc before ≤ program.main_functions)
@@ -43,19 +41,11 @@ pub record IsMain (program : MidProgram) : Type 0 where
   pub found : function_at program program.main ≡ Some function
   pub of_main_file : program.main ≤ program.main_functions
 
-found_within : (program : MidProgram) (number : ℕ) → 1 ≤ number → number ≤ length program.functions → (f : MidFunction) × (function_at program number ≡ Some f)
-found_within program zero some within = absurd (omega arith)
-found_within program (suc before) some within = one_within program.functions before (omega (arith, within))
-
 pub is_main : (program : MidProgram) → IsValid program → IsMain program
 is_main program valid =
     let k = whole program valid in
-    let f = found_within program program.main k.some_main (omega (arith, k.main, k.main_functions)) in
+    let f = main_found program k in
     record { function = f.0; found = f.1; of_main_file = k.main }
-
--- the machine at the start, by the code of `main`
-abbrev pub with_main : MidProgram → Limits → Option MidFunction → Machine
-with_main program limits f = record { top = main_activation program f; below = []; protected = spent (full_budget limits); binary = full_budget limits }
 
 -- an access that the world answers
 abbrev pub IsAsked : Access → Type 0

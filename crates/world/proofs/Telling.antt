@@ -1,17 +1,17 @@
 -- What a machine wants is what its next step of the meaning does.
-use Rattle.std.proofs.Common.{◌≡◌, ℕ, ◌≤◌, List, [], Option, Some, None, refl, sym, subst}
+use Rattle.std.proofs.Common.{◌≡◌, ℕ, ◌≤◌, List, [], refl, sym, subst}
 use Rattle.srmt_base.specs.declared.event.Event.{Event}
 use Rattle.srmt_base.specs.declared.trap.SourceEnd.TheVariants.{Trap as TrapEnd}
 use Rattle.srmt_base.specs.declared.limits.Limits.{Limits}
-use Rattle.mid_code.specs.declared.program.MidFunction.{MidFunction}
 use Rattle.mid_code.specs.declared.program.MidProgram.{MidProgram}
 use Rattle.mid_code.specs.declared.access.Access.{Access}
 use Rattle.mid_code.specs.declared.access.Access.TheVariants.{Loads, Stores, VolatileLoads, VolatileStores, Opens, Closes, Puts, Gets, Exits}
 use Rattle.mid_code.specs.Machine.{Machine, Does, Goes, Traps, Reaches, Lost as Nowhere, does}
-use Rattle.mid_code.specs.Start.{main_activation, started_machine}
+use Rattle.mid_code.specs.Start.{started_machine}
 use Rattle.mid_code.specs.Program.{function_at}
 use Rattle.mid_code.specs.Pairs.{HasSites}
 use Rattle.mid_code.specs.Meaning.{State, Step, On, Ends, Stuck, reach, step_by, step}
+use Rattle.mid_code.proofs.Starting.{main_function}
 use Rattle.word_stream.specs.declared.request.Response.{Response}
 use Rattle.world.specs.World.{WorldState, ask}
 use Rattle.world.proofs.Plain.{IsAsked, Settles, is_main}
@@ -56,12 +56,8 @@ tells program s asked = tells_by program (next_site program s.machine) (does pro
 abbrev pub Stays : MidProgram → Machine → Type 0
 Stays program m = m.top.function ≤ program.main_functions
 
-main_named : (program : MidProgram) (f : Option MidFunction) → (main_activation program f).function ≡ program.main
-main_named program None = refl
-main_named program (Some f) = refl
-
 pub starts_within : (program : MidProgram) (limits : Limits) → HasSites program → Stays program (started_machine program limits)
-starts_within program limits sites = subst (λ f. f ≤ program.main_functions) (sym (main_named program (function_at program program.main))) (is_main program sites.valid).of_main_file
+starts_within program limits sites = subst (λ f. f ≤ program.main_functions) (sym (main_function program (function_at program program.main))) (is_main program sites.valid).of_main_file
 
 abbrev pub StayOn : MidProgram → Wants → Type 0
 StayOn program (Runs next) = Stays program next
