@@ -4,3 +4,6 @@ pub mod Kept
 pub mod Acts
 pub mod Reaching
 pub mod Statics
+pub mod Outside
+pub mod Binary
+pub mod BinaryView

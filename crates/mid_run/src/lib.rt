@@ -6,12 +6,14 @@
 #![tactic(auto)]
 
 mod act;
+mod binary;
 mod frames;
 mod memory;
 mod reach;
 mod run;
 mod statics;
 
+pub use binary::{BinaryRun, BinaryStep};
 pub use run::MidRun;
 
 #[cfg(test)]
