@@ -6,22 +6,30 @@ use Rattle.std.proofs.lemmas.List.{length-map, length-set}
 use Rattle.std.proofs.lemmas.List.Elements.{All-nil, All-set}
 use Rattle.srmt_base.specs.declared.limits.Limits.{Limits}
 use Rattle.srmt_base.specs.declared.trap.Trap.{Trap}
-use Rattle.srmt_base.specs.Objects.{Object, Objects, access_of, if_passed, written_in, written, put_of}
+use Rattle.srmt_base.specs.Objects.{Object, Objects, access_of, if_passed, written_in, written, put_of, start_of}
 use Rattle.srmt_base.specs.Memory.{Binary}
 use Rattle.mid_code.specs.declared.program.MidFunction.{MidFunction}
 use Rattle.mid_code.specs.declared.program.MidProgram.{MidProgram}
-use Rattle.mid_code.specs.Program.{function_at}
+use Rattle.mid_code.specs.declared.program.MidLine.{MidLine}
+use Rattle.mid_code.specs.Program.{function_at, line_at}
 use Rattle.mid_code.specs.Rules.{has_bad_type}
 use Rattle.mid_code.specs.Valid.{IsValid}
 use Rattle.mid_code.specs.Machine.{Activation, Machine, activations, part_of_function}
+use Rattle.mid_code.specs.Meaning.{State}
 use Rattle.mid_code.specs.Start.{FitLimits, main_activation}
-use Rattle.mid_code.specs.Fits.{IsValue, IsWithin, IsPart, IsMachine, open_count}
+use Rattle.mid_code.specs.Fits.{IsValue, IsWithin, IsPart, IsMachine, Fits, open_count}
 use Rattle.mid_code.proofs.Keeping.{neither, keeps_function}
 use Rattle.mid_code.proofs.Standing.{top_changed}
 use Rattle.mid_code.proofs.Acting.{moved_within}
 use Rattle.mid_code.proofs.Remembering.{written_part}
+use Rattle.mid_code.proofs.Fitting.{next_found}
 use Rattle.mid_code.proofs.Starting.{machine_started, fits_started as run_started}
+use Rattle.mid_run.specs.Kept.{Kept}
+use Rattle.mid_run.specs.Acts.{CanAct}
+use Rattle.mid_run.specs.Reaching.{state_of, HasRoom}
+use Rattle.mid_run.specs.Progress.{At}
 use Rattle.mid_run.specs.Outside.{taken}
+use Rattle.mid_run.proofs.Stepping.{Stands, ready, has_room}
 use Rattle.mid_run.specs.Binary.{Next, Rests, Enters, Runs, Stopped, BinaryState, MayEnter, AreBinary, FitsNext, FitsBinary, started_binary}
 
 -- a function has a register
@@ -119,4 +127,46 @@ fits_put program b objects pointer value h put small =
       binary = h.binary;
       entries = h.entries;
       next = next_kept program b.next b objects h.next;
+    }
+
+-- the same machine where no object of the main file lives: what it may do does not hang on them
+abbrev pub alone : BinaryState → State
+alone b = state_of b.machine (start_of 0 1) b.objects []
+
+pub fits_alone : (program : MidProgram) (b : BinaryState) → FitsBinary program b → Fits program (alone b)
+fits_alone program b h = record {
+  machine = h.machine;
+  memory = record {
+    protected = record { rising = omega arith; last = omega arith; cells = All-nil _; values = All-nil _; within = omega arith; budget = omega arith };
+    binary = h.objects;
+  };
+  input = All-nil _;
+  opened = omega (arith, h.opened);
+}
+
+stands_alone : (program : MidProgram) (b : BinaryState) → IsValid program → FitsBinary program b → Stands program (At (alone b)) (alone b)
+stands_alone program b valid h = record { here = refl; valid = valid; fits = fits_alone program b h }
+
+-- what performing an instruction needs
+pub may_perform : (program : MidProgram) (b : BinaryState) (l : MidLine) → IsValid program → FitsBinary program b → line_at program b.machine.top.function b.machine.top.place ≡ Some l → (b.machine.top.place + 1 < 2 ^ 32) × (length program.functions < 65536) × CanAct program l.mid b.machine
+may_perform program b l valid h at =
+    let r = ready program (At (alone b)) (alone b) l (stands_alone program b valid h) at in
+    (r.place, r.few, r.can)
+
+-- there is an instruction
+pub line_found : (program : MidProgram) (b : BinaryState) → FitsBinary program b → line_at program b.machine.top.function b.machine.top.place ≡ None → ⊥
+line_found program b h none = let l = next_found program b.machine h.machine in absurd (cc)
+
+-- there is room for all objects that may be open
+pub has_room_for : (program : MidProgram) (b : BinaryState) (frames : Kept) (shared : Objects) → IsValid program → FitsBinary program b → frames.machine ≡ b.machine → frames.room ≡ 2097152 → length shared.live ≤ 1048576 → shared.budget ≤ 1048576 → HasRoom frames shared b.objects
+has_room_for program b frames shared valid h machine room few budget =
+    let same : Kept = record { machine = b.machine; room = frames.room } in
+    let r = has_room program (At (alone b)) same (start_of 0 1) b.objects [] (stands_alone program b valid h) room in
+    record {
+      opened = omega (arith, h.opened, ap (λ m. open_count (activations m)) machine);
+      protected_few = few;
+      binary_few = r.binary_few;
+      protected_budget = budget;
+      binary_budget = r.binary_budget;
+      room = room;
     }
