@@ -2,6 +2,8 @@
 use Rattle.std.proofs.Common.{◌≡◌, ℕ, zero, suc, ◌+◌, ◌-◌, ◌<◌, ◌≤◌, ◌^◌, List, [], ◌∷◌, length, Option, Some, None, Bool, true, false, refl, sym, ap, ◌∙◌, subst, arith}
 use Rattle.std.specs.Prelude.{All, ◌==◌, if◌then◌else◌, drop, map, slice_get}
 use Rattle.std.proofs.lemmas.Bool.{eqb-true, eqb-false, both_ways}
+use Rattle.srmt_base.specs.declared.event.Event.{Event}
+use Rattle.srmt_base.specs.declared.trap.SourceEnd.{SourceEnd}
 use Rattle.srmt_base.specs.declared.trap.Trap.TheVariants.{Depth, Turns}
 use Rattle.srmt_base.specs.declared.trap.SourceEnd.TheVariants.{Trap as TrapEnd}
 use Rattle.srmt_base.specs.Objects.{Objects}
@@ -18,7 +20,7 @@ use Rattle.mid_code.specs.Operands.{either, number as number_in}
 use Rattle.mid_code.specs.Program.{function_at, line_at}
 use Rattle.mid_code.specs.Valid.{IsValid}
 use Rattle.mid_code.specs.Machine.{Activation, Machine, register, arguments, passed, part_of_function, is_callee, activation_of, does, act}
-use Rattle.mid_code.specs.Meaning.{Step, On, Ends, Stuck}
+use Rattle.mid_code.specs.Meaning.{State, Step, On, Ends, Stuck, step}
 use Rattle.mid_code.specs.Fits.{IsValue, IsWithin, AreBelow, IsMachine, open_count}
 use Rattle.mid_code.proofs.Keeping.{keeps}
 use Rattle.mid_code.proofs.Values.{read_small, reads_small, first_registers}
@@ -27,6 +29,7 @@ use Rattle.mid_code.proofs.Flowing.{none_at_start}
 use Rattle.mid_code.proofs.Naming.{function_kept, first_there}
 use Rattle.mid_code.proofs.Acting.{Keeps, passed_fits}
 use Rattle.mid_code.proofs.Fitting.{next_found, does-at, does_stand}
+use Rattle.mid_run.specs.Reaching.{state_of, LeadsTo}
 use Rattle.mid_run.specs.Outside.{entered_outside, left_outside}
 use Rattle.mid_run.specs.Binary.{Next, Rests, Enters, Runs, Stopped, BinaryState, Answer, Went, Returned, Calls, Ended, After, begins, calls_by, returns_out, by_meaning, meant, is_height, runs, runs_at, step_by, binary_step, said, AreSmall, IsDue, MayEnter, AreBinary, AreHeights, FitsNext, FitsBinary}
 use Rattle.mid_run.specs.declared.binary.BinaryStep.{BinaryStep}
@@ -255,6 +258,51 @@ never_lost program b shared input valid h due none =
 pub fits_after : (program : MidProgram) (b : BinaryState) (shared : Objects) (input : List ℕ) (after : After) → IsValid program → FitsBinary program b → IsDue b.next → All (λ object. All (λ cell. cell < 2 ^ 44) object.cells) shared.live → All (λ byte. byte < 256) input → binary_step program b shared input ≡ Some after → FitsBinary program after.state × HoldsSmall after.answer
 fits_after program b shared input after valid h due cells bytes is =
     subst (IsStep program shared input) is (step_due program b shared input b.next valid h refl due) (record { cells = cells; bytes = bytes })
+
+-- such an instruction does what it means, one case for each
+pub runs_inside : (program : MidProgram) (b : BinaryState) (mid : Mid) (shared : Objects) (input : List ℕ) → IsInside program b.entries b.machine mid → runs program mid b shared input ≡ meant program b shared input
+runs_inside program b (Call target function args) shared input inside = ap (λ part. calls_by part program function target (arguments b.machine args) b shared input) inside
+runs_inside program b (CallPtr target callee ty args) shared input inside = by_test (is_callee program ty (register b.machine callee)) inside where
+  by_test : (callable : Bool) → (callable ≡ true → part_of_function program (register b.machine callee) ≡ Binary) → (if callable then calls_by (part_of_function program (register b.machine callee)) program (register b.machine callee) target (arguments b.machine args) b shared input else meant program b shared input) ≡ meant program b shared input
+  by_test true inside = ap (λ part. calls_by part program (register b.machine callee) target (arguments b.machine args) b shared input) (inside refl)
+  by_test false inside = refl
+runs_inside program b (Return source) shared input inside = ap (λ last. if last then returns_out (register b.machine source) b.machine.below b shared input else meant program b shared input) inside
+runs_inside program b (Const target value) shared input inside = refl
+runs_inside program b (Move target source) shared input inside = refl
+runs_inside program b (Arith op ty target left right) shared input inside = refl
+runs_inside program b (Conv from to target source) shared input inside = refl
+runs_inside program b (PtrAdd target pointer index ty negated scale) shared input inside = refl
+runs_inside program b (PtrDiff target left right scale) shared input inside = refl
+runs_inside program b (PtrCmp op target left right) shared input inside = refl
+runs_inside program b (GlobAddr target object) shared input inside = refl
+runs_inside program b (FunAddr target function) shared input inside = refl
+runs_inside program b (Load target pointer) shared input inside = refl
+runs_inside program b (Store pointer source) shared input inside = refl
+runs_inside program b (VLoad target pointer) shared input inside = refl
+runs_inside program b (VStore pointer source) shared input inside = refl
+runs_inside program b (Open target cells) shared input inside = refl
+runs_inside program b (Close place) shared input inside = refl
+runs_inside program b (Jump place) shared input inside = refl
+runs_inside program b (JumpZ source place) shared input inside = refl
+runs_inside program b (JumpN source place) shared input inside = refl
+runs_inside program b Turn shared input inside = refl
+runs_inside program b (Put source) shared input inside = refl
+runs_inside program b (Get target) shared input inside = refl
+runs_inside program b (Exit source) shared input inside = refl
+
+-- a step by the meaning that goes on, and one that ends the run
+pub meant_on : (program : MidProgram) (b : BinaryState) (shared after_shared after_objects : Objects) (input after_input : List ℕ) (machine : Machine) (events : List Event) → LeadsTo (step program (state_of b.machine shared b.objects input)) (state_of machine after_shared after_objects after_input) events None →
+    meant program b shared input ≡ Some (record { state = record b { machine = machine; objects = after_objects }; shared = after_shared; input = after_input; events = events; answer = Went })
+meant_on program b shared after_shared after_objects input after_input machine events leads = ap (λ s. by_meaning s b shared input) leads
+
+pub meant_ends : (program : MidProgram) (b : BinaryState) (shared : Objects) (input : List ℕ) (next : State) (end : SourceEnd) (events : List Event) → LeadsTo (step program (state_of b.machine shared b.objects input)) next events (Some end) →
+    meant program b shared input ≡ Some (record { state = record b { next = Stopped }; shared = shared; input = input; events = events; answer = Ended end })
+meant_ends program b shared input next end events leads = ap (λ s. by_meaning s b shared input) leads
+
+-- a step is that of the instruction at which the newest activation stands
+pub step_at : (program : MidProgram) (b : BinaryState) (shared : Objects) (input : List ℕ) (l : MidLine) → b.next ≡ Runs → line_at program b.machine.top.function b.machine.top.place ≡ Some l → binary_step program b shared input ≡ runs program l.mid b shared input
+step_at program b shared input l is at =
+    ap (λ n. step_by n program b shared input) is ∙ ap (λ o. runs_at program o b shared input) at
 
 -- the answer of the code
 pub small_said : (answer : BinaryStep) → HoldsSmall (said answer) → AreSmall answer
