@@ -1,6 +1,6 @@
 -- The state of the binary functions stands within the program at the start and after what the outside does to it.
-use Rattle.std.proofs.Common.{◌≡◌, ℕ, zero, suc, ◌+◌, ◌<◌, ◌≤◌, ◌^◌, List, [], ◌∷◌, length, Option, Some, None, Result, Ok, Err, true, false, refl, sym, ap, ◌∙◌, subst, arith}
-use Rattle.std.specs.Prelude.{All, ◌==◌, ◌||◌, nat_lt, slice_get, slice_set}
+use Rattle.std.proofs.Common.{◌≡◌, ℕ, zero, suc, ◌+◌, ◌<◌, ◌≤◌, ◌^◌, List, [], ◌∷◌, length, Option, Some, None, Result, Ok, Err, true, false, refl, sym, ap, subst, arith}
+use Rattle.std.specs.Prelude.{◌==◌, ◌||◌, nat_lt, slice_get, slice_set}
 use Rattle.std.proofs.lemmas.Bool.{eqb-false}
 use Rattle.std.proofs.lemmas.List.{length-map, length-set}
 use Rattle.std.proofs.lemmas.List.Elements.{All-nil, All-set}
@@ -17,7 +17,7 @@ use Rattle.mid_code.specs.Valid.{IsValid}
 use Rattle.mid_code.specs.Machine.{Activation, Machine, activations, part_of_function}
 use Rattle.mid_code.specs.Meaning.{State}
 use Rattle.mid_code.specs.Start.{FitLimits, main_activation}
-use Rattle.mid_code.specs.Fits.{IsValue, IsWithin, IsPart, IsMachine, Fits, open_count}
+use Rattle.mid_code.specs.Fits.{IsValue, IsPart, IsMachine, Fits, open_count}
 use Rattle.mid_code.proofs.Keeping.{neither, keeps, keeps_function}
 use Rattle.mid_code.proofs.Standing.{top_changed}
 use Rattle.mid_code.proofs.Acting.{moved_within, act_fits}

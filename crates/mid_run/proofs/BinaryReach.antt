@@ -1,13 +1,13 @@
 -- What memory and the outside do for an instruction of a binary function leaves its machine and its objects standing.
-use Rattle.std.proofs.Common.{◌≡◌, ℕ, ◌+◌, ◌<◌, ◌≤◌, List, [], ◌∷◌, length, Option, Some, None, Result, Ok, Err, Bool, true, false, refl, ap, subst, arith}
+use Rattle.std.proofs.Common.{◌≡◌, ℕ, ◌+◌, ◌<◌, ◌≤◌, List, [], ◌∷◌, length, Option, Some, None, Result, Ok, Err, Bool, true, false, refl, arith}
 use Rattle.std.specs.Prelude.{All, IfOk, IfSome, ◌==◌, nat_lt, nat_le, if◌then◌else◌, find, drop, slice_index}
 use Rattle.std.proofs.lemmas.List.{length-map}
 use Rattle.std.proofs.lemmas.List.Elements.{All-head, All-tail}
 use Rattle.srmt_base.specs.declared.event.Event.{Event}
 use Rattle.srmt_base.specs.declared.trap.Trap.{Trap}
 use Rattle.srmt_base.specs.declared.trap.Trap.TheVariants.{NullPointer, OutsideObject, Store as StoreTrap}
-use Rattle.srmt_base.specs.Objects.{Object, Objects, object_part, offset_part, pointer_to, live_at, access_in, access_of, if_passed, written_in, written, load_of, put_of, add_of, end_of}
-use Rattle.srmt_base.specs.Memory.{Memory, Part, Protected, Binary, last_number, objects_of, with_objects, part_of, part_of_number, changed, read_of, write_of, begin_of}
+use Rattle.srmt_base.specs.Objects.{Object, Objects, object_part, offset_part, pointer_to, live_at, access_in, access_of, if_passed, written_in, written, load_of, add_of, end_of}
+use Rattle.srmt_base.specs.Memory.{Memory, Part, Protected, Binary, last_number, objects_of, with_objects, part_of, part_of_number, changed, write_of}
 use Rattle.mid_code.specs.declared.program.MidProgram.{MidProgram}
 use Rattle.mid_code.specs.declared.access.Access.{Access}
 use Rattle.mid_code.specs.declared.access.Access.TheVariants.{Loads, Stores, VolatileLoads, VolatileStores, Opens, Closes, Puts, Gets, Exits}

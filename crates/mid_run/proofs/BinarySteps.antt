@@ -4,8 +4,6 @@ use Rattle.std.specs.Prelude.{All, ◌==◌, if◌then◌else◌, drop, map, sli
 use Rattle.std.proofs.lemmas.Bool.{eqb-true, eqb-false, both_ways}
 use Rattle.srmt_base.specs.declared.event.Event.{Event}
 use Rattle.srmt_base.specs.declared.trap.SourceEnd.{SourceEnd}
-use Rattle.srmt_base.specs.declared.trap.Trap.TheVariants.{Depth, Turns}
-use Rattle.srmt_base.specs.declared.trap.SourceEnd.TheVariants.{Trap as TrapEnd}
 use Rattle.srmt_base.specs.Objects.{Objects}
 use Rattle.srmt_base.specs.Memory.{Part, Protected, Binary}
 use Rattle.mid_code.specs.declared.program.FunType.{FunType}
@@ -35,7 +33,7 @@ use Rattle.mid_run.specs.Binary.{Next, Rests, Enters, Runs, Stopped, BinaryState
 use Rattle.mid_run.specs.declared.binary.BinaryStep.{BinaryStep}
 use Rattle.mid_run.specs.declared.binary.BinaryStep.TheVariants as code
 use Rattle.mid_run.proofs.Binaries.{same_binary}
-use Rattle.mid_run.proofs.BinaryStays.{Stays, DoesStay, IsInside, act_stays}
+use Rattle.mid_run.proofs.BinaryStays.{DoesStay, IsInside, act_stays}
 use Rattle.mid_run.proofs.BinaryReach.{IsSmall, IsFollowed, does_follow}
 
 -- the numbers of an answer have 44 bits
@@ -255,11 +253,16 @@ never_lost program b shared input valid h due none =
     subst (IsStep program shared input) none (step_due program b shared input b.next valid h refl due)
 
 -- what a step leads to stands, and its answer holds numbers of 44 bits
-pub fits_after : (program : MidProgram) (b : BinaryState) (shared : Objects) (input : List ℕ) (after : After) → IsValid program → FitsBinary program b → IsDue b.next → All (λ object. All (λ cell. cell < 2 ^ 44) object.cells) shared.live → All (λ byte. byte < 256) input → binary_step program b shared input ≡ Some after → FitsBinary program after.state × HoldsSmall after.answer
-fits_after program b shared input after valid h due cells bytes is =
-    subst (IsStep program shared input) is (step_due program b shared input b.next valid h refl due) (record { cells = cells; bytes = bytes })
+after_by : (program : MidProgram) (b : BinaryState) (shared : Objects) (input : List ℕ) (after : After) (next : Next) → IsValid program → FitsBinary program b → b.next ≡ next → IsSmall shared input → step_by next program b shared input ≡ Some after → FitsBinary program after.state × HoldsSmall after.answer
+after_by program b shared input after Rests valid h is small some = absurd (cc)
+after_by program b shared input after (Enters number args) valid h is small some = subst (IsStep program shared input) some (step_due program b shared input (Enters number args) valid h is tt) small
+after_by program b shared input after Runs valid h is small some = subst (IsStep program shared input) some (step_due program b shared input Runs valid h is tt) small
+after_by program b shared input after Stopped valid h is small some = absurd (cc)
 
--- such an instruction does what it means, one case for each
+pub fits_after : (program : MidProgram) (b : BinaryState) (shared : Objects) (input : List ℕ) (after : After) → IsValid program → FitsBinary program b → All (λ object. All (λ cell. cell < 2 ^ 44) object.cells) shared.live → All (λ byte. byte < 256) input → binary_step program b shared input ≡ Some after → FitsBinary program after.state × HoldsSmall after.answer
+fits_after program b shared input after valid h cells bytes is = after_by program b shared input after b.next valid h refl (record { cells = cells; bytes = bytes }) is
+
+-- an instruction that stays inside does what it means, one case for each
 pub runs_inside : (program : MidProgram) (b : BinaryState) (mid : Mid) (shared : Objects) (input : List ℕ) → IsInside program b.entries b.machine mid → runs program mid b shared input ≡ meant program b shared input
 runs_inside program b (Call target function args) shared input inside = ap (λ part. calls_by part program function target (arguments b.machine args) b shared input) inside
 runs_inside program b (CallPtr target callee ty args) shared input inside = by_test (is_callee program ty (register b.machine callee)) inside where
