@@ -7,6 +7,7 @@
 
 mod act;
 mod binary;
+mod execute;
 mod frames;
 mod memory;
 mod reach;
