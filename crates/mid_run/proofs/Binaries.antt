@@ -1,5 +1,5 @@
 -- The state of the binary functions stands within the program at the start and after what the outside does to it.
-use Rattle.std.proofs.Common.{◌≡◌, ℕ, zero, suc, ◌+◌, ◌<◌, ◌≤◌, ◌^◌, List, [], ◌∷◌, length, Option, Some, None, Result, Ok, Err, true, false, refl, sym, ap, subst, arith}
+use Rattle.std.proofs.Common.{◌≡◌, ℕ, zero, suc, ◌<◌, ◌≤◌, ◌^◌, List, [], ◌∷◌, length, Option, Some, None, Result, Ok, Err, true, false, refl, sym, ap, subst, arith}
 use Rattle.std.specs.Prelude.{◌==◌, ◌||◌, nat_lt, slice_get, slice_set}
 use Rattle.std.proofs.lemmas.Bool.{eqb-false}
 use Rattle.std.proofs.lemmas.List.{length-map, length-set}
@@ -18,20 +18,18 @@ use Rattle.mid_code.specs.Machine.{Activation, Machine, activations, part_of_fun
 use Rattle.mid_code.specs.Meaning.{State}
 use Rattle.mid_code.specs.Start.{FitLimits, main_activation}
 use Rattle.mid_code.specs.Fits.{IsValue, IsPart, IsMachine, Fits, open_count}
-use Rattle.mid_code.proofs.Keeping.{neither, keeps, keeps_function}
+use Rattle.mid_code.proofs.Keeping.{neither, keeps_function}
 use Rattle.mid_code.proofs.Standing.{top_changed}
-use Rattle.mid_code.proofs.Acting.{moved_within, act_fits}
-use Rattle.mid_code.proofs.Naming.{whole, function_kept}
+use Rattle.mid_code.proofs.Acting.{moved_within}
 use Rattle.mid_code.proofs.Remembering.{written_part}
 use Rattle.mid_code.proofs.Fitting.{next_found}
 use Rattle.mid_code.proofs.Starting.{machine_started, fits_started as run_started}
 use Rattle.mid_run.specs.Kept.{Kept}
-use Rattle.mid_run.specs.Acts.{CanAct}
+use Rattle.mid_run.specs.Acts.{IsReady}
 use Rattle.mid_run.specs.Reaching.{state_of, HasRoom}
 use Rattle.mid_run.specs.Progress.{At}
 use Rattle.mid_run.specs.Outside.{taken}
-use Rattle.mid_run.proofs.Stepping.{Stands, has_room}
-use Rattle.mid_run.proofs.Ready.{can_act}
+use Rattle.mid_run.proofs.Stepping.{Stands, ready_at, has_room}
 use Rattle.mid_run.specs.Binary.{Next, Rests, Enters, Runs, Stopped, BinaryState, MayEnter, AreBinary, FitsNext, FitsBinary, started_binary}
 
 -- a function has a register
@@ -150,15 +148,8 @@ stands_alone : (program : MidProgram) (b : BinaryState) → IsValid program → 
 stands_alone program b valid h = record { here = refl; valid = valid; fits = fits_alone program b h }
 
 -- what performing an instruction needs
-pub may_perform : (program : MidProgram) (b : BinaryState) (l : MidLine) → IsValid program → FitsBinary program b → line_at program b.machine.top.function b.machine.top.place ≡ Some l → (b.machine.top.place + 1 < 2 ^ 32) × (length program.functions < 65536) × CanAct program l.mid b.machine
-may_perform program b l valid h at =
-    let m = h.machine in
-    let n = next_found program b.machine m in
-    let same : n.0 ≡ l = cc in
-    let k = keeps program b.machine.top.function b.machine.top.place m.top.code n.0 valid m.top.found n.1 in
-    let kept = function_kept program b.machine.top.function m.top.code valid m.top.found in
-    let can = can_act program b.machine m n.0.mid n.0.line valid k (act_fits program b.machine m n.0.mid n.0.line valid k) in
-    (omega (arith, m.top.place, kept.limit), omega (arith, (whole program valid).few_functions), subst (λ (x : MidLine). CanAct program x.mid b.machine) same can)
+pub may_perform : (program : MidProgram) (b : BinaryState) (l : MidLine) → IsValid program → FitsBinary program b → line_at program b.machine.top.function b.machine.top.place ≡ Some l → IsReady program b.machine l
+may_perform program b l valid h at = ready_at program b.machine l valid h.machine at
 
 -- there is an instruction
 pub line_found : (program : MidProgram) (b : BinaryState) → FitsBinary program b → line_at program b.machine.top.function b.machine.top.place ≡ None → ⊥
