@@ -108,6 +108,6 @@ module _ (program : MidProgram) (protected binary : Objects) (input : List ℕ) 
   -- it wants something
   pub wanted : line_at program before.machine.top.function before.machine.top.place ≡ Some l → (access : Access) → HasDone (act program l.mid l.line before.machine) l.line before after (Wants access) → (next : State) (events : List Event) (end : Option SourceEnd) → LeadsTo (reach program access l.line (state_of after.machine protected binary input)) next events end → LeadsTo (step program (state_of before.machine protected binary input)) next events end
   wanted at access done next events end leads =
-    let same = step-act at (Reaches access l.line) done.0 in
-    let there = subst (λ (k : Kept). LeadsTo (reach program access l.line (state_of k.machine protected binary input)) next events end) done.1 leads in
-    subst (λ (x : Step). LeadsTo x next events end) (sym same) there
+      let same = step-act at (Reaches access l.line) done.0 in
+      let there = subst (λ (k : Kept). LeadsTo (reach program access l.line (state_of k.machine protected binary input)) next events end) done.1 leads in
+      subst (λ (x : Step). LeadsTo x next events end) (sym same) there

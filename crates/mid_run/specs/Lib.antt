@@ -7,3 +7,4 @@ pub mod Statics
 pub mod Outside
 pub mod Binary
 pub mod BinaryView
+pub mod Crossing

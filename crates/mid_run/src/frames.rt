@@ -1,10 +1,14 @@
 ghost use Rattle.std.specs.Prelude.{◌≡◌, ℕ, ◌+◌, ◌-◌, ◌^◌, ◌<◌, ◌≤◌, List, [], ◌∷◌, ◌++◌, Option, Some, None, length, map, replicate, slice_index, slice_set, IfOk, All, vec_len, vec_capacity};
 ghost use Rattle.srmt_base.specs.Memory.{part_if};
 ghost use Rattle.mid_code.specs.Fits.{open_count};
-ghost use Rattle.mid_code.specs.Machine.{Goes, activations, budget_of, with_budget, passed, moved_to, given, given_object, passed_close, entered, leaves, register};
+ghost use Rattle.srmt_base.specs.Args.{args_list};
+ghost use Rattle.mid_code.specs.Registers.{registers_list};
+ghost use Rattle.mid_code.specs.Machine.{Goes, activations, arguments, budget_of, with_budget, passed, moved_to, given, given_object, passed_close, entered, leaves, register};
 ghost use Rattle.mid_run.specs.Kept.{newest_number, fresh, left_of, TakesResult};
 ghost use Rattle.mid_run.specs.Outside.{entered_outside, IsLeftOutside, taken};
 
+use mid_code::Registers;
+use srmt_base::Args;
 use std::alloc::{AllocError, Global};
 use std::marker::Model;
 
@@ -166,6 +170,18 @@ impl Frames {
         ensures small { result < 2 ^ 44 }
     {
         self.registers[self.top.base as usize + usize::from(register)]
+    }
+
+    /// What the registers that a call passes hold.
+    pub(crate) fn values(&self, registers: &Registers) -> Args
+        requires { All (λ r. r < length self.now.machine.top.registers) (registers_list registers.now) }
+        ensures { args_list result ≡ arguments self.now.machine registers.now }
+    {
+        let mut args = Args::new();
+        for register in registers.as_slice() {
+            args.push(self.read(*register));
+        }
+        args
     }
 
     /// Passes the instruction.

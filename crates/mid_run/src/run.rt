@@ -19,7 +19,7 @@ use std::alloc::{AllocError, Global};
 use std::marker::Model;
 
 /// For how many open objects there is room: each has a cell, and each part has at most 1,048,576.
-const ROOM: u32 = 2_097_152;
+pub(crate) const ROOM: u32 = 2_097_152;
 
 /// A run of a program on one thread.
 #[derive(Drop)]
