@@ -1,5 +1,5 @@
 -- The state of the binary functions stands within the program at the start and after what the outside does to it.
-use Rattle.std.proofs.Common.{◌≡◌, ℕ, zero, suc, ◌<◌, ◌≤◌, ◌^◌, List, [], ◌∷◌, length, Option, Some, None, Result, Ok, Err, true, false, refl, sym, ap, subst, arith}
+use Rattle.std.proofs.Common.{◌≡◌, ℕ, zero, suc, ◌+◌, ◌-◌, ◌<◌, ◌≤◌, ◌^◌, List, [], ◌∷◌, length, Option, Some, None, Result, Ok, Err, true, false, refl, sym, ap, subst, arith}
 use Rattle.std.specs.Prelude.{◌==◌, ◌||◌, nat_lt, slice_get, slice_set}
 use Rattle.std.proofs.lemmas.Bool.{eqb-false}
 use Rattle.std.proofs.lemmas.List.{length-map, length-set}
@@ -14,7 +14,7 @@ use Rattle.mid_code.specs.declared.program.MidLine.{MidLine}
 use Rattle.mid_code.specs.Program.{function_at, line_at}
 use Rattle.mid_code.specs.Rules.{has_bad_type}
 use Rattle.mid_code.specs.Valid.{IsValid}
-use Rattle.mid_code.specs.Machine.{Activation, Machine, activations, part_of_function}
+use Rattle.mid_code.specs.Machine.{Activation, Machine, activations, part_of_function, one_if, live_of}
 use Rattle.mid_code.specs.Meaning.{State}
 use Rattle.mid_code.specs.Start.{FitLimits, main_activation}
 use Rattle.mid_code.specs.Fits.{IsValue, IsPart, IsMachine, Fits, open_count}
@@ -30,7 +30,7 @@ use Rattle.mid_run.specs.Reaching.{state_of, HasRoom}
 use Rattle.mid_run.specs.Progress.{At}
 use Rattle.mid_run.specs.Outside.{taken}
 use Rattle.mid_run.proofs.Stepping.{Stands, ready_at, has_room}
-use Rattle.mid_run.specs.Binary.{Next, Rests, Enters, Runs, Stopped, BinaryState, MayEnter, AreBinary, FitsNext, FitsBinary, started_binary}
+use Rattle.mid_run.specs.Binary.{Next, Rests, Enters, Runs, Stopped, BinaryState, MayEnter, AreBinary, AreHeights, FitsNext, FitsBinary, started_binary}
 
 -- a function has a register
 some_register : (program : MidProgram) (number : ℕ) (f : MidFunction) → IsValid program → function_at program number ≡ Some f → 1 ≤ length f.kinds
@@ -168,3 +168,20 @@ has_room_for program b frames shared valid h machine room few budget =
       binary_budget = r.binary_budget;
       room = room;
     }
+
+-- no more activations live than the limits allow, and no more functions were entered than live
+live_all : (program : MidProgram) (a : Activation) (below : List Activation) → AreBinary program a below → length below ≤ live_of program Binary (a ∷ below)
+live_all program a [] h = omega arith
+live_all program a (caller ∷ rest) h =
+    let own : one_if Binary (part_of_function program a.function) ≡ 1 = ap (one_if Binary) h.0 in
+    omega (arith, own, live_all program caller rest h.1)
+
+heights_few : (below : ℕ) (entries : List ℕ) → AreHeights below entries → length entries ≤ below
+heights_few below [] h = omega arith
+heights_few below (height ∷ older) h = omega (arith, h.0, h.1, heights_few (height - 1) older h.2)
+
+pub few_below : (program : MidProgram) (b : BinaryState) → FitsBinary program b → length b.machine.below + b.machine.binary.depth ≤ 1000
+few_below program b h = omega (arith, live_all program b.machine.top b.machine.below h.binary, h.machine.binary_left.depth)
+
+pub few_entries : (program : MidProgram) (b : BinaryState) → FitsBinary program b → length b.entries + b.machine.binary.depth ≤ 1000
+few_entries program b h = omega (arith, few_below program b h, heights_few (length b.machine.below) b.entries h.entries)

@@ -28,8 +28,8 @@ use Rattle.mid_code.proofs.Naming.{function_kept, first_there}
 use Rattle.mid_code.proofs.Acting.{Keeps, passed_fits}
 use Rattle.mid_code.proofs.Fitting.{next_found, does-at, does_stand}
 use Rattle.mid_run.specs.Reaching.{state_of, LeadsTo}
-use Rattle.mid_run.specs.Outside.{entered_outside, left_outside}
-use Rattle.mid_run.specs.Binary.{Next, Rests, Enters, Runs, Stopped, BinaryState, Answer, Went, Returned, Calls, Ended, After, begins, calls_by, returns_out, by_meaning, meant, is_height, runs, runs_at, step_by, binary_step, said, AreSmall, IsDue, MayEnter, AreBinary, AreHeights, FitsNext, FitsBinary}
+use Rattle.mid_run.specs.Outside.{entered_outside, left_outside, IsLeftOutside}
+use Rattle.mid_run.specs.Binary.{Next, Rests, Enters, Runs, Stopped, BinaryState, Answer, Went, Returned, Calls, Ended, After, goes_on, begins, calls_out, calls_by, returns_out, by_meaning, meant, is_height, runs, runs_at, step_by, binary_step, said, AreSmall, IsDue, MayEnter, AreBinary, AreHeights, FitsNext, FitsBinary}
 use Rattle.mid_run.specs.declared.binary.BinaryStep.{BinaryStep}
 use Rattle.mid_run.specs.declared.binary.BinaryStep.TheVariants as code
 use Rattle.mid_run.proofs.Binaries.{same_binary}
@@ -306,6 +306,30 @@ meant_ends program b shared input next end events leads = ap (λ s. by_meaning s
 pub step_at : (program : MidProgram) (b : BinaryState) (shared : Objects) (input : List ℕ) (l : MidLine) → b.next ≡ Runs → line_at program b.machine.top.function b.machine.top.place ≡ Some l → binary_step program b shared input ≡ runs program l.mid b shared input
 step_at program b shared input l is at =
     ap (λ n. step_by n program b shared input) is ∙ ap (λ o. runs_at program o b shared input) at
+
+-- a step is the beginning of the function that is to be entered
+pub step_enters : (program : MidProgram) (b : BinaryState) (shared : Objects) (input : List ℕ) (number : ℕ) (args : List ℕ) (f : MidFunction) → b.next ≡ Enters number args → function_at program number ≡ Some f → binary_step program b shared input ≡ begins (Some f) number args b shared input
+step_enters program b shared input number args f is at =
+    ap (λ n. step_by n program b shared input) is ∙ ap (λ o. begins o number args b shared input) at
+
+-- a call of a function of the main file
+pub runs_call : (program : MidProgram) (b : BinaryState) (shared : Objects) (input : List ℕ) (target function : ℕ) (args : Registers) → part_of_function program function ≡ Protected → runs program (Call target function args) b shared input ≡ calls_out function target (arguments b.machine args) b shared input
+runs_call program b shared input target function args outside = ap (λ part. calls_by part program function target (arguments b.machine args) b shared input) outside
+
+pub runs_call_value : (program : MidProgram) (b : BinaryState) (shared : Objects) (input : List ℕ) (target callee ty : ℕ) (args : Registers) → is_callee program ty (register b.machine callee) ≡ true → part_of_function program (register b.machine callee) ≡ Protected → runs program (CallPtr target callee ty args) b shared input ≡ calls_out (register b.machine callee) target (arguments b.machine args) b shared input
+runs_call_value program b shared input target callee ty args callable outside =
+    ap (λ c. if c then calls_by (part_of_function program (register b.machine callee)) program (register b.machine callee) target (arguments b.machine args) b shared input else meant program b shared input) callable ∙
+    ap (λ part. calls_by part program (register b.machine callee) target (arguments b.machine args) b shared input) outside
+
+-- the return of the function that was entered last
+pub runs_return : (program : MidProgram) (b : BinaryState) (shared : Objects) (input : List ℕ) (source : ℕ) (after : Machine) → is_height (length b.machine.below) b.entries ≡ true → IsLeftOutside b.machine.below b.machine after →
+    runs program (Return source) b shared input ≡ goes_on (record b { machine = after; entries = drop 1 b.entries; into = b.machine.top.into; next = Rests }) (Returned (register b.machine source)) shared input
+runs_return program b shared input source after last is =
+    ap (λ c. if c then returns_out (register b.machine source) b.machine.below b shared input else meant program b shared input) last ∙ by_caller b.machine.below is
+  where
+    by_caller : (below : List Activation) → IsLeftOutside below b.machine after → returns_out (register b.machine source) below b shared input ≡ goes_on (record b { machine = after; entries = drop 1 b.entries; into = b.machine.top.into; next = Rests }) (Returned (register b.machine source)) shared input
+    by_caller [] is = absurd is
+    by_caller (caller ∷ rest) is = ap (λ m. goes_on (record b { machine = m; entries = drop 1 b.entries; into = b.machine.top.into; next = Rests }) (Returned (register b.machine source)) shared input) (sym is)
 
 -- the answer of the code
 pub small_said : (answer : BinaryStep) → HoldsSmall (said answer) → AreSmall answer
