@@ -1,4 +1,4 @@
-use Rattle.std.proofs.Common.{◌≡◌, ℕ, ◌<◌, List, [], length, Option, Some, sym, ap, subst, ◌∙◌, arith}
+use Rattle.std.proofs.Common.{◌≡◌, ℕ, ◌<◌, List, [], length, Some, refl, sym, ap, subst, ◌∙◌, arith}
 use Rattle.std.specs.Prelude.{reverse}
 use Rattle.srmt_base.specs.declared.limits.Limits.{Limits}
 use Rattle.srmt_base.specs.Objects.{Objects}
@@ -8,7 +8,7 @@ use Rattle.mid_code.specs.declared.program.MidFunction.{MidFunction}
 use Rattle.mid_code.specs.Program.{function_at}
 use Rattle.mid_code.specs.Machine.{Machine}
 use Rattle.mid_code.specs.Start.{full_budget, started_objects}
-use Rattle.mid_run.specs.Kept.{fresh}
+use Rattle.mid_run.specs.Kept.{Kept, fresh}
 use Rattle.mid_run.specs.Binary.{BinaryState, Rests, started_binary, FitsBinary}
 use Rattle.mid_run.proofs.Sound.{sound_statics, main_not_none, few_registers}
 use Rattle.mid_run.proofs.Binaries.{fits_started}
@@ -39,11 +39,12 @@ invariant_of-result-2 c =
     let is = started_is c.args.program.now c.args.limits _ _ _ c.in-Some.main.now c.len-count.result (sym c.in-Some.ensures) c.len-count.ensures c.in_ok-frames.ensures.machine objects c.in_ok-with_capacity.ensures.items in
     let fits = fits_started c.args.program.now c.args.limits c.requires.valid c.requires.limits in
     let waits : 0 < length c.in_ok-frames.frames.machine.top.registers = subst (λ (b : BinaryState). 0 < length b.machine.top.registers) (sym is) fits.next in
-    (ap (λ k. k.room) c.frames.view_is ∙ c.in_ok-frames.ensures.room, omega (arith, c.in_ok-with_capacity.ensures.capacity), rw c.frames.view_is waits)
+    (ap (λ k. k.room) c.frames.view_is ∙ c.in_ok-frames.ensures.room, omega (arith, c.in_ok-with_capacity.ensures.capacity), subst (λ (k : Kept). 0 < length k.machine.top.registers) (sym c.frames.view_is) waits)
 
 pub returns-clause-fits : goal.returns-clause-fits
 returns-clause-fits c =
     let objects = rw c.as_slice.ensures at c.in_ok-objects.ensures in
     let is = started_is c.args.program.now c.args.limits _ _ _ c.in-Some.main.now c.len-count.result (sym c.in-Some.ensures) c.len-count.ensures c.in_ok-frames.ensures.machine objects c.in_ok-with_capacity.ensures.items in
     let fits = fits_started c.args.program.now c.args.limits c.requires.valid c.requires.limits in
-    rw c.frames.view_is (subst (FitsBinary c.args.program.now) (sym is) fits)
+    subst (λ (k : Kept). FitsBinary c.args.program.now (record { machine = k.machine; objects = c.in_ok-objects.objects; entries = reverse c.in_ok-with_capacity.field-0.items; into = 0; next = Rests })) (sym c.frames.view_is)
+    (subst (FitsBinary c.args.program.now) (sym is) fits)
