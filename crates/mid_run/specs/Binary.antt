@@ -187,6 +187,13 @@ AreSmall (code.Returned value) = IsValue value
 AreSmall (code.Calls number args) = All IsValue (args_list args)
 AreSmall (code.Ended end) = Unit {0}
 
+-- what comes next, by what a step has answered: a function that is called outside was called by one that was entered
+abbrev pub IsFollowed : BinaryStep → BinaryState → Type 0
+IsFollowed code.Went b = b.next ≡ Runs
+IsFollowed (code.Returned value) b = b.next ≡ Rests
+IsFollowed (code.Calls number args) b = (b.next ≡ Rests) × (1 ≤ length b.entries)
+IsFollowed (code.Ended end) b = b.next ≡ Stopped
+
 -- a step is due
 abbrev pub IsDue : Next → Type 0
 IsDue Rests = ⊥

@@ -13,7 +13,7 @@ ghost use Rattle.mid_code.specs.Machine.{passed, arguments, part_of_function};
 ghost use Rattle.mid_run.specs.Kept.{TakesResult};
 ghost use Rattle.mid_run.specs.Acts.{IsThere, IsReady};
 ghost use Rattle.mid_run.specs.Outside.{taken};
-ghost use Rattle.mid_run.specs.Binary.{Rests, Enters, Runs, Stopped, Returned, started_binary, binary_step, begins, goes_on, runs, meant, calls_by, returns_out, is_height, said, IsDue, MayEnter, FitsBinary, AreSmall};
+ghost use Rattle.mid_run.specs.Binary.{Rests, Enters, Runs, Stopped, Returned, started_binary, binary_step, begins, goes_on, runs, meant, calls_by, returns_out, is_height, said, IsDue, MayEnter, FitsBinary, AreSmall, IsFollowed};
 ghost use Rattle.mid_run.specs.Crossing.{crossed, CanCross};
 
 use crate::act::callee;
@@ -160,6 +160,7 @@ impl BinaryRun {
         requires within { at.old ≤ length input.now }
         ensures step { IfOk result (λ answer. (events : List Event) × (binary_step program.now self.old shared.old (drop at.old input.now) ≡ Some (record { state = self.new; shared = shared.new; input = drop at.new input.now; events = events; answer = said answer })) × Appends (O.events outlet.old) (O.events outlet.new) events) }
         ensures small { IfOk result AreSmall }
+        ensures next { IfOk result (λ answer. IsFollowed answer self.new) }
         ensures fits { FitsBinary program.now self.new }
         ensures within { at.new ≤ length input.now }
 
@@ -186,6 +187,7 @@ impl BinaryRun {
         requires fits { FitsBinary program.now self.old }
         requires next { self.old.next ≡ Enters number (args_list args.now) }
         ensures begins { (shared : Objects) → (input : List ℕ) → begins (function_at program.now number) number (args_list args.now) self.old shared input ≡ goes_on self.new (said result) shared input }
+        ensures next { IsFollowed result self.new }
     {
         let Some(code) = program.function(number) else {
             unreachable!();
@@ -231,6 +233,7 @@ impl BinaryRun {
         requires next { self.old.next ≡ Runs }
         requires within { at.old ≤ length input.now }
         ensures step { IfOk result (λ answer. (events : List Event) × (binary_step program.now self.old shared.old (drop at.old input.now) ≡ Some (record { state = self.new; shared = shared.new; input = drop at.new input.now; events = events; answer = said answer })) × Appends (O.events outlet.old) (O.events outlet.new) events) }
+        ensures next { IfOk result (λ answer. IsFollowed answer self.new) }
         ensures within { at.new ≤ length input.now }
         ensures failed { OnErr result (Rose (O.faults outlet.old) (O.faults outlet.new)) }
         ensures kept { OnErr result ((self.new ≡ self.old) × (shared.new ≡ shared.old) × (at.new ≡ at.old)) }
@@ -329,7 +332,8 @@ impl BinaryRun {
     /// Leaves the function that was entered last. The register that waited below it waits again.
     fn return_out(&mut self)
         requires { TakesResult self.old.machine.top.into self.old.machine.below }
-        ensures { (value : ℕ) → (shared : Objects) → (input : List ℕ) → returns_out value self.old.machine.below self.old shared input ≡ goes_on self.new (Returned value) shared input }
+        ensures returns { (value : ℕ) → (shared : Objects) → (input : List ℕ) → returns_out value self.old.machine.below self.old shared input ≡ goes_on self.new (Returned value) shared input }
+        ensures next { self.new.next ≡ Rests }
     {
         self.into = self.frames.leave_to_outside();
         let _height = self.entries.pop();
@@ -352,6 +356,7 @@ impl BinaryRun {
         requires ready { IsReady program.now self.old.machine line.now }
         requires within { at.old ≤ length input.now }
         ensures meant { IfOk result (λ answer. (events : List Event) × (meant program.now self.old shared.old (drop at.old input.now) ≡ Some (record { state = self.new; shared = shared.new; input = drop at.new input.now; events = events; answer = said answer })) × Appends (O.events outlet.old) (O.events outlet.new) events) }
+        ensures next { IfOk result (λ answer. IsFollowed answer self.new) }
         ensures within { at.new ≤ length input.now }
         ensures failed { OnErr result (Rose (O.faults outlet.old) (O.faults outlet.new)) }
         ensures kept { OnErr result ((self.new ≡ self.old) × (shared.new ≡ shared.old) × (at.new ≡ at.old)) }
