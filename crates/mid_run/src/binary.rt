@@ -1,4 +1,4 @@
-ghost use Rattle.std.specs.Prelude.{◌≡◌, ◌+◌, ◌≤◌, ◌<◌, ◌^◌, ℕ, List, [], length, drop, Option, Some, Ok, Err, OnOk, OnErr, IfOk, IfErr, All};
+ghost use Rattle.std.specs.Prelude.{◌≡◌, ◌+◌, ◌≤◌, ◌<◌, ◌^◌, ◌↔◌, IsTrue, ℕ, List, [], length, drop, Option, Some, Ok, Err, OnOk, OnErr, IfOk, IfErr, All};
 ghost use Rattle.srmt_base.specs.declared.event.Event.{Event};
 ghost use Rattle.srmt_base.specs.Args.{args_list};
 ghost use Rattle.srmt_base.specs.Objects.{Objects, load_of, put_of};
@@ -378,6 +378,20 @@ impl BinaryRun {
             None => Ok(BinaryStep::Went),
             Some(end) => Ok(self.stop(end)),
         }
+    }
+
+    /// Whether it rests: nothing is to be done until a function is entered or a value is given back.
+    pub fn rests(&self) -> bool
+        ensures { IsTrue result ↔ (self.now.next ≡ Rests) }
+    {
+        matches!(self.due, Due::Nothing)
+    }
+
+    /// How many functions were entered from outside and have not returned.
+    pub fn entered(&self) -> usize
+        ensures { result ≡ length self.now.entries }
+    {
+        self.entries.len()
     }
 
     /// Gives back what the function has returned that was called, where it rests with a call out.
