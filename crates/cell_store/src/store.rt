@@ -1,4 +1,4 @@
-ghost use Rattle.std.specs.Prelude.{◌≡◌, ℕ, ◌+◌, ◌-◌, ◌*◌, ◌^◌, ◌<◌, ◌≤◌, is_some, length, slice_get, IsFalse, IfSome, IfOk, IfErr, OnOk, OnErr};
+ghost use Rattle.std.specs.Prelude.{◌≡◌, ℕ, ◌+◌, ◌-◌, ◌*◌, ◌^◌, ◌<◌, ◌≤◌, is_some, length, slice_get, All, IsFalse, IfSome, IfOk, IfErr, OnOk, OnErr};
 ghost use Rattle.srmt_base.specs.Objects.{start_of, live_at, is_live, add_of, load_of, put_of, written, set_up_of, end_of};
 
 use crate::Steps;
@@ -51,6 +51,9 @@ impl Store {
 
         // Each object has a cell.
         ensures few { length self.now.live ≤ self.now.budget }
+
+        // Each cell holds a number of 44 bits.
+        ensures small { All (λ object. All (λ cell. cell < 2 ^ 44) object.cells) self.now.live }
     {
         self.budget
     }

@@ -14,7 +14,7 @@ use Rattle.mid_run.specs.declared.frames.Begun.{Begun}
 use Rattle.mid_run.specs.Kept.{activation_in, opened_of, machine_in, AreStacked, AreKept, left_of, left_at, with_left, fresh, TakesResult}
 
 -- a part of the first n of a row
-part_take : {A : Type 0} (from long n : ℕ) (xs : List A) → from + long ≤ n → take long (drop from (take n xs)) ≡ take long (drop from xs)
+pub part_take : {A : Type 0} (from long n : ℕ) (xs : List A) → from + long ≤ n → take long (drop from (take n xs)) ≡ take long (drop from xs)
 part_take from long n xs h =
     let e : n ≡ from + (n - from) = omega arith in
     ap (λ (k : ℕ). take long (drop from (take k xs))) e ∙ ap (take long) (drop-take from (n - from) xs) ∙ take-take long (n - from) (drop from xs) (omega arith)
@@ -163,10 +163,10 @@ kept_begun limit room rs os top below depths rc oc lc oc2 i v place o k small le
       lines_fit = k.lines_fit;
     }
 
-stacked_pop : (end top : ℕ) (line caller : Line) (rest : List Line) → AreStacked end top (line ∷ reverse (rest ++ caller ∷ [])) → AreStacked end top (line ∷ caller ∷ reverse rest)
+pub stacked_pop : (end top : ℕ) (line caller : Line) (rest : List Line) → AreStacked end top (line ∷ reverse (rest ++ caller ∷ [])) → AreStacked end top (line ∷ caller ∷ reverse rest)
 stacked_pop end top line caller rest laid = subst (λ (ls : List Line). AreStacked end top (line ∷ ls)) (reverse-append rest (caller ∷ [])) laid
 
-stacked_push : (end top : ℕ) (line caller : Line) (rest : List Line) → AreStacked end top (line ∷ caller ∷ reverse rest) → AreStacked end top (line ∷ reverse (rest ++ caller ∷ []))
+pub stacked_push : (end top : ℕ) (line caller : Line) (rest : List Line) → AreStacked end top (line ∷ caller ∷ reverse rest) → AreStacked end top (line ∷ reverse (rest ++ caller ∷ []))
 stacked_push end top line caller rest laid = subst (λ (ls : List Line). AreStacked end top (line ∷ ls)) (sym (reverse-append rest (caller ∷ []))) laid
 
 -- and after the newest activation is left

@@ -3,6 +3,7 @@ use Rattle.std.proofs.Common.{◌≡◌, ℕ, suc, ◌+◌, ◌<◌, ◌≤◌, 
 use Rattle.std.specs.Prelude.{All, sum_by}
 use Rattle.std.proofs.lemmas.List.Sums.{sum_by-cons}
 use Rattle.srmt_base.specs.declared.event.Event.{Event}
+use Rattle.srmt_base.specs.declared.trap.Trap.{Trap}
 use Rattle.srmt_base.specs.declared.trap.SourceEnd.{SourceEnd}
 use Rattle.srmt_base.specs.declared.trap.SourceEnd.TheVariants.{Trap as TrapEnd}
 use Rattle.srmt_base.specs.Objects.{Object, Objects}
@@ -12,9 +13,9 @@ use Rattle.mid_code.specs.declared.program.MidLine.{MidLine}
 use Rattle.mid_code.specs.declared.access.Access.{Access}
 use Rattle.mid_code.specs.Program.{line_at}
 use Rattle.mid_code.specs.Valid.{IsValid}
-use Rattle.mid_code.specs.Machine.{Does, Goes, Traps, Reaches, act}
-use Rattle.mid_code.specs.Meaning.{State, reach, step, step_by}
-use Rattle.mid_code.specs.Fits.{Fits, IsPart}
+use Rattle.mid_code.specs.Machine.{Machine, Does, Goes, Traps, Reaches, act}
+use Rattle.mid_code.specs.Meaning.{State, Step, reach, step, step_by}
+use Rattle.mid_code.specs.Fits.{Fits, IsPart, IsMachine}
 use Rattle.mid_code.proofs.Keeping.{keeps}
 use Rattle.mid_code.proofs.Acting.{act_fits}
 use Rattle.mid_code.proofs.Naming.{whole, function_kept}
@@ -23,7 +24,7 @@ use Rattle.mid_run.specs.declared.run.MidRun.TheInside.{Inside}
 use Rattle.mid_run.specs.declared.act.Did.{Did}
 use Rattle.mid_run.specs.declared.act.Did.TheVariants.{Went, Trapped, Wants}
 use Rattle.mid_run.specs.Kept.{Kept}
-use Rattle.mid_run.specs.Acts.{CanAct, CanReach, HasDone}
+use Rattle.mid_run.specs.Acts.{CanAct, CanReach, HasDone, IsReady}
 use Rattle.mid_run.specs.Reaching.{state_of, LeadsTo, HasRoom}
 use Rattle.mid_run.specs.Progress.{Progress, At, Over, FitsIn, Steps, end_of}
 use Rattle.mid_run.specs.View.{progress_of, progress_by, state_in}
@@ -45,23 +46,18 @@ pub found : (program : MidProgram) (p : Progress) (s : State) → Stands program
 found program p s h none = let l = next_found program s.machine h.fits.machine in absurd (cc)
 
 -- what performing it needs
-pub record IsReady (program : MidProgram) (s : State) (l : MidLine) : Type 0 where
-  pub place : s.machine.top.place + 1 < 2 ^ 32
-  pub few : length program.functions < 65536
-  pub can : CanAct program l.mid s.machine
-
-pub ready : (program : MidProgram) (p : Progress) (s : State) (l : MidLine) → Stands program p s → line_at program s.machine.top.function s.machine.top.place ≡ Some l → IsReady program s l
-ready program p s l h at =
-    let m = h.fits.machine in
-    let n = next_found program s.machine m in
+pub ready_at : (program : MidProgram) (m : Machine) (l : MidLine) → IsValid program → IsMachine program m → line_at program m.top.function m.top.place ≡ Some l → IsReady program m l
+ready_at program m l valid h at =
+    let n = next_found program m h in
     let same : n.0 ≡ l = cc in
-    let k = keeps program s.machine.top.function s.machine.top.place m.top.code n.0 h.valid m.top.found n.1 in
-    let kept = function_kept program s.machine.top.function m.top.code h.valid m.top.found in
-    let can = can_act program s.machine m n.0.mid n.0.line h.valid k (act_fits program s.machine m n.0.mid n.0.line h.valid k) in
+    let k = keeps program m.top.function m.top.place h.top.code n.0 valid h.top.found n.1 in
+    let kept = function_kept program m.top.function h.top.code valid h.top.found in
+    let can = can_act program m h n.0.mid n.0.line valid k (act_fits program m h n.0.mid n.0.line valid k) in
     record {
-      place = omega (arith, m.top.place, kept.limit);
-      few = omega (arith, (whole program h.valid).few_functions);
-      can = subst (λ (x : MidLine). CanAct program x.mid s.machine) same can;
+      here = at;
+      place = omega (arith, h.top.place, kept.limit);
+      few = omega (arith, (whole program valid).few_functions);
+      can = subst (λ (x : MidLine). CanAct program x.mid m) same can;
     }
 
 few_objects : (objects : List Object) → All (λ object. 1 ≤ length object.cells) objects → length objects ≤ sum_by (λ object. length object.cells) objects
@@ -102,13 +98,16 @@ module _ (program : MidProgram) (protected binary : Objects) (input : List ℕ) 
   step-act at d e = ap (λ x. step_by program x (state_of before.machine protected binary input)) (does-at program before.machine l at ∙ e)
 
   -- the machine has gone on
-  pub went_on : line_at program before.machine.top.function before.machine.top.place ≡ Some l → (did : Did) → did ≡ Went → HasDone (act program l.mid l.line before.machine) l.line before after did → LeadsTo (step program (state_of before.machine protected binary input)) (state_of after.machine protected binary input) [] None
-  went_on at did is done = let e = subst (HasDone (act program l.mid l.line before.machine) l.line before after) is done in step-act at (Goes after.machine) e.0
+  pub went_on : line_at program before.machine.top.function before.machine.top.place ≡ Some l → HasDone (act program l.mid l.line before.machine) l.line before after Went → LeadsTo (step program (state_of before.machine protected binary input)) (state_of after.machine protected binary input) [] None
+  went_on at done = step-act at (Goes after.machine) done.0
 
   -- it stops
-  pub stopped : line_at program before.machine.top.function before.machine.top.place ≡ Some l → (did : Did) (trap : _) (line : ℕ) → did ≡ Trapped trap line → HasDone (act program l.mid l.line before.machine) l.line before after did → LeadsTo (step program (state_of before.machine protected binary input)) (state_of after.machine protected binary input) [] (Some (TrapEnd trap line))
-  stopped at did trap line is done = let e = subst (HasDone (act program l.mid l.line before.machine) l.line before after) is done in step-act at (Traps trap line) e.0
+  pub stopped : line_at program before.machine.top.function before.machine.top.place ≡ Some l → (trap : Trap) (line : ℕ) → HasDone (act program l.mid l.line before.machine) l.line before after (Trapped trap line) → LeadsTo (step program (state_of before.machine protected binary input)) (state_of after.machine protected binary input) [] (Some (TrapEnd trap line))
+  stopped at trap line done = step-act at (Traps trap line) done.0
 
   -- it wants something
-  pub wanted : line_at program before.machine.top.function before.machine.top.place ≡ Some l → (did : Did) (access : Access) → did ≡ Wants access → HasDone (act program l.mid l.line before.machine) l.line before after did → (step program (state_of before.machine protected binary input) ≡ reach program access l.line (state_of before.machine protected binary input)) × (after ≡ before) × CanReach access before.machine
-  wanted at did access is done = let e = subst (HasDone (act program l.mid l.line before.machine) l.line before after) is done in (step-act at (Reaches access l.line) e.0, e.1, e.2)
+  pub wanted : line_at program before.machine.top.function before.machine.top.place ≡ Some l → (access : Access) → HasDone (act program l.mid l.line before.machine) l.line before after (Wants access) → (next : State) (events : List Event) (end : Option SourceEnd) → LeadsTo (reach program access l.line (state_of after.machine protected binary input)) next events end → LeadsTo (step program (state_of before.machine protected binary input)) next events end
+  wanted at access done next events end leads =
+      let same = step-act at (Reaches access l.line) done.0 in
+      let there = subst (λ (k : Kept). LeadsTo (reach program access l.line (state_of k.machine protected binary input)) next events end) done.1 leads in
+      subst (λ (x : Step). LeadsTo x next events end) (sym same) there

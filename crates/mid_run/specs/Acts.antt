@@ -1,16 +1,17 @@
 -- What an instruction needs of the machine that performs it, and what performing it comes to.
-use Rattle.std.specs.Prelude.{◌≡◌, ℕ, ◌^◌, ◌<◌, ◌≤◌, List, [], ◌∷◌, length, Some, All, true, IsTrue}
+use Rattle.std.specs.Prelude.{◌≡◌, ℕ, ◌+◌, ◌^◌, ◌<◌, ◌≤◌, List, [], ◌∷◌, length, Some, All, true, IsTrue}
 use Rattle.srmt_base.specs.Types.{IsPromoted}
 use Rattle.srmt_base.specs.Arith.{is_comparison}
 use Rattle.srmt_base.specs.Objects.{pointer_to}
 use Rattle.mid_code.specs.declared.program.MidProgram.{MidProgram}
 use Rattle.mid_code.specs.declared.program.MidFunction.{MidFunction}
+use Rattle.mid_code.specs.declared.program.MidLine.{MidLine}
 use Rattle.mid_code.specs.declared.mid.Mid.{Mid}
 use Rattle.mid_code.specs.declared.mid.Mid.TheVariants.{Const, Move, Arith, Conv, PtrAdd, PtrDiff, PtrCmp, GlobAddr, FunAddr, Load, Store, VLoad, VStore, Open, Close, Jump, JumpZ, JumpN, Turn, Call, CallPtr, Return, Put, Get, Exit}
 use Rattle.mid_code.specs.declared.access.Access.{Access}
 use Rattle.mid_code.specs.declared.access.Access.TheVariants.{Loads, Stores, VolatileLoads, VolatileStores, Opens, Closes, Puts, Gets, Exits}
 use Rattle.mid_code.specs.Registers.{registers_list}
-use Rattle.mid_code.specs.Program.{function_at}
+use Rattle.mid_code.specs.Program.{function_at, line_at}
 use Rattle.mid_code.specs.Machine.{Opened, Machine, Does, Goes, Traps, Reaches, register, is_callee}
 use Rattle.mid_run.specs.Kept.{Kept, TakesResult}
 use Rattle.mid_run.specs.declared.act.Did.{Did}
@@ -65,6 +66,13 @@ CanAct program (Return source) m = IsThere m source × TakesResult m.top.into m.
 CanAct program (Put source) m = IsThere m source
 CanAct program (Get target) m = IsThere m target
 CanAct program (Exit source) m = IsThere m source
+
+-- a machine stands before an instruction, and can perform it
+pub record IsReady (program : MidProgram) (m : Machine) (l : MidLine) : Type 0 where
+  pub here : line_at program m.top.function m.top.place ≡ Some l
+  pub place : m.top.place + 1 < 2 ^ 32
+  pub few : length program.functions < 65536
+  pub can : CanAct program l.mid m
 
 -- what memory or the outside need to do what an instruction wants of them
 abbrev pub CanReach : Access → Machine → Type 0

@@ -4,3 +4,7 @@ pub mod Kept
 pub mod Acts
 pub mod Reaching
 pub mod Statics
+pub mod Outside
+pub mod Binary
+pub mod BinaryView
+pub mod Crossing

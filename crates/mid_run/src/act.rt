@@ -262,7 +262,7 @@ fn call_value(
 }
 
 /// The function of a type whose number a value is, if it is one that may be called.
-fn callee(program: &MidProgram, value: u64, ty: u16) -> Option<u16>
+pub(crate) fn callee(program: &MidProgram, value: u64, ty: u16) -> Option<u16>
     requires { length program.now.functions < 65536 }
     ensures { MatchOption result (is_callee program.now ty value ≡ false) (λ number. (number ≡ value) × (is_callee program.now ty value ≡ true)) }
 {

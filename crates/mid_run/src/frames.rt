@@ -1,9 +1,14 @@
 ghost use Rattle.std.specs.Prelude.{◌≡◌, ℕ, ◌+◌, ◌-◌, ◌^◌, ◌<◌, ◌≤◌, List, [], ◌∷◌, ◌++◌, Option, Some, None, length, map, replicate, slice_index, slice_set, IfOk, All, vec_len, vec_capacity};
 ghost use Rattle.srmt_base.specs.Memory.{part_if};
 ghost use Rattle.mid_code.specs.Fits.{open_count};
-ghost use Rattle.mid_code.specs.Machine.{Goes, activations, budget_of, with_budget, passed, moved_to, given, given_object, passed_close, entered, leaves, register};
+ghost use Rattle.srmt_base.specs.Args.{args_list};
+ghost use Rattle.mid_code.specs.Registers.{registers_list};
+ghost use Rattle.mid_code.specs.Machine.{Goes, activations, arguments, budget_of, with_budget, passed, moved_to, given, given_object, passed_close, entered, leaves, register};
 ghost use Rattle.mid_run.specs.Kept.{newest_number, fresh, left_of, TakesResult};
+ghost use Rattle.mid_run.specs.Outside.{entered_outside, IsLeftOutside, taken};
 
+use mid_code::Registers;
+use srmt_base::Args;
 use std::alloc::{AllocError, Global};
 use std::marker::Model;
 
@@ -167,6 +172,18 @@ impl Frames {
         self.registers[self.top.base as usize + usize::from(register)]
     }
 
+    /// What the registers that a call passes hold.
+    pub(crate) fn values(&self, registers: &Registers) -> Args
+        requires { All (λ r. r < length self.now.machine.top.registers) (registers_list registers.now) }
+        ensures { args_list result ≡ arguments self.now.machine registers.now }
+    {
+        let mut args = Args::new();
+        for register in registers.as_slice() {
+            args.push(self.read(*register));
+        }
+        args
+    }
+
     /// Passes the instruction.
     pub(crate) fn pass(&mut self)
         requires { self.old.machine.top.place + 1 < 2 ^ 32 }
@@ -328,6 +345,81 @@ impl Frames {
                 depth: left.depth + 1,
             },
         );
+    }
+
+    /// How many activations are below the newest.
+    pub(crate) fn height(&self) -> usize
+        ensures { result ≡ length self.now.machine.below }
+    {
+        self.below.len()
+    }
+
+    /// Begins a binary function above an activation that stays as it is. It has `count` registers, and
+    /// the values go into its first ones.
+    pub(crate) fn enter_from_outside(
+        &mut self,
+        function: u16,
+        count: u16,
+        into: u16,
+        values: &[u64],
+    )
+        requires turns { 1 ≤ self.old.machine.binary.turns }
+        requires depth { 1 ≤ self.old.machine.binary.depth }
+        requires count { count ≤ 1024 }
+        requires few { length values.now ≤ count }
+        requires small { All (λ v. v < 2 ^ 44) values.now }
+        ensures { self.new ≡ record self.old { machine = entered_outside (fresh function count into values.now) self.old.machine } }
+    {
+        self.budgets.binary.turns -= 1;
+        self.budgets.binary.depth -= 1;
+        let Ok(()) = self.below.push(self.top) else {
+            unreachable!();
+        };
+        let base = self.registers.len();
+        let Ok(()) = self.registers.extend_from_slice(values) else {
+            unreachable!();
+        };
+        let Ok(()) = self.registers.resize(base + usize::from(count), 0) else {
+            unreachable!();
+        };
+        self.top = Line {
+            function,
+            into,
+            count,
+            place: 0,
+            base: base as u32,
+            floor: self.objects.len() as u32,
+            held: 0,
+        };
+    }
+
+    /// Leaves the newest activation, that of a binary function, and gives the register that was to
+    /// take its result.
+    pub(crate) fn leave_to_outside(&mut self) -> u16
+        requires { 1 ≤ length self.old.machine.below }
+        ensures into { result ≡ self.old.machine.top.into }
+        ensures goes { IsLeftOutside self.old.machine.below self.old.machine self.new.machine }
+        ensures room { self.new.room ≡ self.old.room }
+    {
+        self.registers.truncate(self.top.base as usize);
+        self.objects.truncate(self.top.floor as usize);
+        let Some(caller) = self.below.pop() else {
+            unreachable!();
+        };
+        let into = self.top.into;
+        self.top = caller;
+        self.budgets.binary.depth += 1;
+        into
+    }
+
+    /// A register of the newest activation takes a value.
+    pub(crate) fn take(&mut self, register: u16, value: u64)
+        requires register { register < length self.old.machine.top.registers }
+        requires small { value < 2 ^ 44 }
+        ensures { self.new ≡ record self.old { machine = taken register value self.old.machine } }
+    {
+        let at = self.top.base as usize + usize::from(register);
+        self.registers[at] = value;
     }
 }
 

@@ -6,12 +6,15 @@
 #![tactic(auto)]
 
 mod act;
+mod binary;
+mod execute;
 mod frames;
 mod memory;
 mod reach;
 mod run;
 mod statics;
 
+pub use binary::{BinaryRun, BinaryStep};
 pub use run::MidRun;
 
 #[cfg(test)]

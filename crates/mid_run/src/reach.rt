@@ -1,4 +1,4 @@
-ghost use Rattle.std.specs.Prelude.{◌≡◌, ℕ, ◌+◌, ◌%◌, ◌^◌, ◌<◌, ◌≤◌, List, [], ◌∷◌, Option, None, length, drop, IfOk, OnOk, OnErr, All};
+ghost use Rattle.std.specs.Prelude.{◌≡◌, ℕ, ◌+◌, ◌%◌, ◌^◌, ◌<◌, ◌≤◌, List, [], ◌∷◌, Option, None, length, drop, IfSome, IfOk, OnOk, OnErr, All};
 ghost use Rattle.srmt_base.specs.declared.event.Event.{Event};
 ghost use Rattle.srmt_base.specs.Objects.{Objects, object_part, offset_part};
 ghost use Rattle.srmt_base.specs.Memory.{part_if, read_of, write_of, begin_of, next_number};
@@ -35,6 +35,7 @@ pub(crate) fn reach<O: Outlet>(
     requires within { at.old ≤ length input.now }
     ensures reached { IfOk result (λ end. LeadsTo (reach_of program.now access line (state_of frames.old.machine protected.old binary.old (drop at.old input.now))) (state_of frames.new.machine protected.new binary.new (drop at.new input.now)) (events_of access end) end) }
     ensures told { IfOk result (λ end. Appends (O.events outlet.old) (O.events outlet.new) (events_of access end)) }
+    ensures still { IfOk result (λ end. IfSome end (λ _. (frames.new ≡ frames.old) × (protected.new ≡ protected.old) × (binary.new ≡ binary.old) × (at.new ≡ at.old))) }
     ensures room { frames.new.room ≡ frames.old.room }
     ensures within { at.new ≤ length input.now }
     ensures failed { OnErr result (Rose (O.faults outlet.old) (O.faults outlet.new)) }
@@ -97,6 +98,7 @@ fn open_own(
     requires cells { 1 ≤ cells }
     requires room { HasRoom frames.old protected.old binary.old }
     ensures reached { (rest : List ℕ) → LeadsTo (reach_of program.now (Access.Opens target cells) line (state_of frames.old.machine protected.old binary.old rest)) (state_of frames.new.machine protected.new binary.new rest) [] result }
+    ensures still { IfSome result (λ _. (frames.new ≡ frames.old) × (protected.new ≡ protected.old) × (binary.new ≡ binary.old)) }
     ensures room { frames.new.room ≡ frames.old.room }
 {
     if frames.function() <= program.main_functions {
@@ -118,6 +120,7 @@ fn read(
     requires place { frames.old.machine.top.place + 1 < 2 ^ 32 }
     requires target { IsThere frames.old.machine target }
     ensures reached { (rest : List ℕ) → let s = state_of frames.old.machine protected.now binary.now rest in LeadsTo (after_read target line [] s (read_of s.memory pointer)) (state_of frames.new.machine protected.now binary.now rest) [] result }
+    ensures still { IfSome result (λ _. frames.new ≡ frames.old) }
     ensures room { frames.new.room ≡ frames.old.room }
 {
     match load(protected, binary, pointer) {
@@ -141,6 +144,7 @@ fn write(
     requires place { frames.old.machine.top.place + 1 < 2 ^ 32 }
     requires small { value < 2 ^ 44 }
     ensures reached { (rest : List ℕ) → let s = state_of frames.old.machine protected.old binary.old rest in LeadsTo (after_write line [] s (write_of s.memory pointer value)) (state_of frames.new.machine protected.new binary.new rest) [] result }
+    ensures still { IfSome result (λ _. (frames.new ≡ frames.old) × (protected.new ≡ protected.old) × (binary.new ≡ binary.old)) }
     ensures room { frames.new.room ≡ frames.old.room }
 {
     match put(protected, binary, pointer, value) {
@@ -167,6 +171,7 @@ fn read_volatile<O: Outlet>(
     requires pointer { pointer < 2 ^ 44 }
     ensures reached { IfOk result (λ end. (rest : List ℕ) → let s = state_of frames.old.machine protected.now binary.now rest in LeadsTo (after_read target line (Event.PortRead (object_part pointer) (offset_part pointer) ∷ []) s (read_of s.memory pointer)) (state_of frames.new.machine protected.now binary.now rest) (events_of (Access.VolatileLoads target pointer) end) end) }
     ensures told { IfOk result (λ end. Appends (O.events outlet.old) (O.events outlet.new) (events_of (Access.VolatileLoads target pointer) end)) }
+    ensures still { IfOk result (λ end. IfSome end (λ _. frames.new ≡ frames.old)) }
     ensures room { frames.new.room ≡ frames.old.room }
     ensures failed { OnErr result (Rose (O.faults outlet.old) (O.faults outlet.new)) }
     ensures kept { OnErr result (frames.new ≡ frames.old) }
@@ -200,6 +205,7 @@ fn write_volatile<O: Outlet>(
     requires small { value < 2 ^ 44 }
     ensures reached { IfOk result (λ end. (rest : List ℕ) → let s = state_of frames.old.machine protected.old binary.old rest in LeadsTo (after_write line (Event.PortWrite (object_part pointer) (offset_part pointer) value ∷ []) s (write_of s.memory pointer value)) (state_of frames.new.machine protected.new binary.new rest) (events_of (Access.VolatileStores pointer value) end) end) }
     ensures told { IfOk result (λ end. Appends (O.events outlet.old) (O.events outlet.new) (events_of (Access.VolatileStores pointer value) end)) }
+    ensures still { IfOk result (λ end. IfSome end (λ _. (frames.new ≡ frames.old) × (protected.new ≡ protected.old) × (binary.new ≡ binary.old))) }
     ensures room { frames.new.room ≡ frames.old.room }
     ensures failed { OnErr result (Rose (O.faults outlet.old) (O.faults outlet.new)) }
     ensures kept { OnErr result ((frames.new ≡ frames.old) × (protected.new ≡ protected.old) × (binary.new ≡ binary.old)) }
@@ -241,6 +247,7 @@ fn open(
     requires cells { 1 ≤ cells }
     requires room { (others : ℕ) × (open_count (activations frames.old.machine) ≤ length store.old.live + others) × (store.old.budget + others ≤ frames.old.room) }
     ensures goes { Opens (part_if protected) target cells line frames.old store.old frames.new store.new result }
+    ensures still { IfSome result (λ _. (frames.new ≡ frames.old) × (store.new ≡ store.old)) }
     ensures room { frames.new.room ≡ frames.old.room }
 {
     match begin(store, protected, cells) {

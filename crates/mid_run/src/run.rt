@@ -1,28 +1,25 @@
 ghost use Rattle.std.specs.Prelude.{◌≡◌, ◌≤◌, ◌<◌, ◌^◌, ℕ, List, [], Option, Some, OnOk, OnErr, IfOk, IfErr, All};
-ghost use Rattle.std.specs.Option.{option_copied};
 ghost use Rattle.srmt_base.specs.declared.event.Event.{Event};
 ghost use Rattle.srmt_outside.specs.Count.{Rose};
 ghost use Rattle.srmt_outside.specs.Told.{Appends};
-ghost use Rattle.mid_code.specs.Program.{line_at};
 ghost use Rattle.mid_code.specs.Valid.{IsValid};
 ghost use Rattle.mid_code.specs.Start.{FitLimits};
 ghost use Rattle.mid_code.specs.Meaning.{started};
 ghost use Rattle.mid_run.specs.Reaching.{state_of};
 ghost use Rattle.mid_run.specs.Progress.{Progress, At, FitsIn, Steps, Runs, end_of};
 
-use crate::act::{Did, perform};
+use crate::execute::{execute, next_line};
 use crate::frames::{Budgets, Frames, Left};
-use crate::reach::reach;
 use crate::statics::begin_statics;
 use cell_store::Store;
-use mid_code::{MidLine, MidProgram};
+use mid_code::MidProgram;
 use srmt_base::{Limits, SourceEnd};
 use srmt_outside::{Failed, Outlet};
 use std::alloc::{AllocError, Global};
 use std::marker::Model;
 
 /// For how many open objects there is room: each has a cell, and each part has at most 1,048,576.
-const ROOM: u32 = 2_097_152;
+pub(crate) const ROOM: u32 = 2_097_152;
 
 /// A run of a program on one thread.
 #[derive(Drop)]
@@ -128,28 +125,18 @@ impl MidRun {
         let Some(line) = next_line(program, &self.frames) else {
             unreachable!();
         };
-        match perform(&mut self.frames, program, line) {
-            Did::Went => Ok(None),
-            Did::Trapped(trap, at) => {
-                self.over = Some(SourceEnd::Trap(trap, at));
-                Ok(self.over)
-            }
-            Did::Wants(access) => {
-                let end = reach(
-                    &mut self.frames,
-                    &mut self.protected,
-                    &mut self.binary,
-                    self.input.as_slice(),
-                    &mut self.at,
-                    program,
-                    access,
-                    line.line,
-                    outlet,
-                )?;
-                self.over = end;
-                Ok(end)
-            }
-        }
+        let end = execute(
+            &mut self.frames,
+            &mut self.protected,
+            &mut self.binary,
+            self.input.as_slice(),
+            &mut self.at,
+            program,
+            line,
+            outlet,
+        )?;
+        self.over = end;
+        Ok(end)
     }
 
     /// Runs to the end. After an end it answers the same end.
@@ -174,12 +161,4 @@ impl MidRun {
             }
         }
     }
-}
-
-/// The instruction at which the newest activation stands.
-fn next_line<'a>(program: &'a MidProgram, frames: &Frames) -> Option<&'a MidLine>
-    ensures { option_copied result ≡ line_at program.now frames.now.machine.top.function frames.now.machine.top.place }
-{
-    let function = program.function(frames.function())?;
-    function.code.get(frames.place() as usize)
 }

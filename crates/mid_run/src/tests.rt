@@ -11,6 +11,7 @@ use srmt_outside::MemOutlet;
 use std::alloc::{AllocError, Global};
 use std::test::Fail;
 
+mod binary;
 mod budgets;
 
 /// Instructions one after another, with the numbers of their lines from `line` on.

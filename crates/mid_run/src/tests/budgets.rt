@@ -1,6 +1,6 @@
-use super::{args, exit, run};
+use super::{args, arith, exit, run, set};
 use mid_code::Mid;
-use srmt_base::{Limits, SourceEnd, Trap};
+use srmt_base::{Limits, Op, SourceEnd, Trap};
 use srmt_outside::MemOutlet;
 use std::test::Fail;
 
@@ -122,5 +122,53 @@ fn budgets_at_their_limits(rt: HostRuntime) -> Result<(), Fail> {
         let done = run(rt.alloc(), code, limits, &mut outlet)?;
         assert_eq!(rt; done, Some(end), "{limits:?} {code:?}");
     }
+    Ok(())
+}
+
+/// A loop of ten million turns: it ends where a turn more is left, and else by its last arrival at
+/// the top.
+#[test]
+fn ten_million_turns(rt: HostRuntime) -> Result<(), Fail> {
+    let code = [
+        set(0, 9_999_999),
+        set(1, 1),
+        Mid::Turn,
+        arith(Op::Sub, 0, 0, 1),
+        Mid::JumpN {
+            source: 0,
+            place: 2,
+        },
+        exit(),
+    ];
+    let rows = [
+        (10_000_000, SourceEnd::Exit(0)),
+        (9_999_999, SourceEnd::Trap(Trap::Turns, 3)),
+    ];
+    for (turns, end) in rows {
+        let limits = Limits {
+            turns,
+            depth: 1,
+            cells: 3,
+        };
+        assert!(rt; 1 <= turns && turns <= 10_000_000);
+        let mut outlet = MemOutlet::with_room(rt.alloc(), 1)?;
+        let done = run(rt.alloc(), &code, limits, &mut outlet)?;
+        assert_eq!(rt; done, Some(end), "{limits:?}");
+    }
+    Ok(())
+}
+
+/// A loop with no way out ends where its turns do.
+#[test]
+fn a_loop_without_an_end(rt: HostRuntime) -> Result<(), Fail> {
+    let limits = Limits {
+        turns: 10_000_000,
+        depth: 1,
+        cells: 3,
+    };
+    let mut outlet = MemOutlet::with_room(rt.alloc(), 1)?;
+    let code = [Mid::Turn, Mid::Jump { place: 0 }];
+    let done = run(rt.alloc(), &code, limits, &mut outlet)?;
+    assert_eq!(rt; done, Some(SourceEnd::Trap(Trap::Turns, 1)));
     Ok(())
 }
