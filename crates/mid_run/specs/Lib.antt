@@ -4,3 +4,4 @@ pub mod Kept
 pub mod Acts
 pub mod Reaching
 pub mod Statics
+pub mod Groups

@@ -5,6 +5,7 @@ ghost use Rattle.mid_code.specs.Program.{function_at};
 ghost use Rattle.mid_code.specs.Machine.{Goes, given, gives, moved_if, counts, part_of_function, calls, calls_value, is_callee, closes, leaves, register, arguments, act};
 ghost use Rattle.mid_run.specs.Kept.{TakesResult};
 ghost use Rattle.mid_run.specs.Acts.{IsThere, CanEnter, IsNewest, IsCall, CanAct, HasDone};
+ghost use Rattle.mid_run.specs.Groups.{IsOfNumbers, IsOfPointers, IsOfFlow, IsAccess};
 
 use crate::frames::Frames;
 use mid_code::{Access, Mid, MidLine, MidProgram, Registers};
@@ -26,6 +27,34 @@ pub(crate) fn perform(frames: &mut Frames, program: &MidProgram, line: &MidLine)
     requires place { frames.old.machine.top.place + 1 < 2 ^ 32 }
     requires few { length program.now.functions < 65536 }
     requires can { CanAct program.now line.now.mid frames.old.machine }
+    ensures { HasDone (act program.now line.now.mid line.now.line frames.old.machine) line.now.line frames.old frames.new result }
+{
+    match line.mid {
+        Mid::Const { .. }
+        | Mid::Move { .. }
+        | Mid::Arith { .. }
+        | Mid::Conv { .. }
+        | Mid::FunAddr { .. } => set_number(frames, program, line),
+        Mid::PtrAdd { .. } | Mid::PtrDiff { .. } | Mid::PtrCmp { .. } | Mid::GlobAddr { .. } => {
+            set_from_pointers(frames, program, line)
+        }
+        Mid::Jump { .. } | Mid::JumpZ { .. } | Mid::JumpN { .. } | Mid::Turn => {
+            go_on(frames, program, line)
+        }
+        Mid::Call { .. } | Mid::CallPtr { .. } => perform_call(frames, program, line),
+        Mid::Return { source } => {
+            let value = frames.read(source);
+            leave(frames, program, value, line.line)
+        }
+        _ => want(frames, program, line),
+    }
+}
+
+/// Sets a register to a number, from numbers alone.
+fn set_number(frames: &mut Frames, program: &MidProgram, line: &MidLine) -> Did
+    requires place { frames.old.machine.top.place + 1 < 2 ^ 32 }
+    requires can { CanAct program.now line.now.mid frames.old.machine }
+    requires number { IsOfNumbers line.now.mid }
     ensures { HasDone (act program.now line.now.mid line.now.line frames.old.machine) line.now.line frames.old frames.new result }
 {
     let at = line.line;
@@ -54,6 +83,20 @@ pub(crate) fn perform(frames: &mut Frames, program: &MidProgram, line: &MidLine)
             let value = convert(from, to, frames.read(source));
             set(frames, target, value, at)
         }
+        Mid::FunAddr { target, function } => set(frames, target, u64::from(function), at),
+        _ => unreachable!(),
+    }
+}
+
+/// Sets a register to a pointer, or to what pointers give.
+fn set_from_pointers(frames: &mut Frames, program: &MidProgram, line: &MidLine) -> Did
+    requires place { frames.old.machine.top.place + 1 < 2 ^ 32 }
+    requires can { CanAct program.now line.now.mid frames.old.machine }
+    requires pointers { IsOfPointers line.now.mid }
+    ensures { HasDone (act program.now line.now.mid line.now.line frames.old.machine) line.now.line frames.old frames.new result }
+{
+    let at = line.line;
+    match line.mid {
         Mid::PtrAdd {
             target,
             pointer,
@@ -84,7 +127,40 @@ pub(crate) fn perform(frames: &mut Frames, program: &MidProgram, line: &MidLine)
             set_or_trap(frames, target, outcome, at)
         }
         Mid::GlobAddr { target, object } => set(frames, target, u64::from(object) * 65536, at),
-        Mid::FunAddr { target, function } => set(frames, target, u64::from(function), at),
+        _ => unreachable!(),
+    }
+}
+
+/// Jumps, or counts a turn.
+fn go_on(frames: &mut Frames, program: &MidProgram, line: &MidLine) -> Did
+    requires place { frames.old.machine.top.place + 1 < 2 ^ 32 }
+    requires can { CanAct program.now line.now.mid frames.old.machine }
+    requires flow { IsOfFlow line.now.mid }
+    ensures { HasDone (act program.now line.now.mid line.now.line frames.old.machine) line.now.line frames.old frames.new result }
+{
+    let at = line.line;
+    match line.mid {
+        Mid::Jump { place } => jump(frames, true, place, at),
+        Mid::JumpZ { source, place } => {
+            let taken = frames.read(source) == 0;
+            jump(frames, taken, place, at)
+        }
+        Mid::JumpN { source, place } => {
+            let taken = frames.read(source) != 0;
+            jump(frames, taken, place, at)
+        }
+        Mid::Turn => turn(frames, program, at),
+        _ => unreachable!(),
+    }
+}
+
+/// What an instruction wants of memory or of the outside.
+fn want(frames: &Frames, program: &MidProgram, line: &MidLine) -> Did
+    requires can { CanAct program.now line.now.mid frames.now.machine }
+    requires access { IsAccess line.now.mid }
+    ensures { HasDone (act program.now line.now.mid line.now.line frames.now.machine) line.now.line frames.now frames.now result }
+{
+    match line.mid {
         Mid::Load { target, pointer } => Did::Wants(Access::Loads {
             target,
             pointer: frames.read(pointer),
@@ -102,25 +178,11 @@ pub(crate) fn perform(frames: &mut Frames, program: &MidProgram, line: &MidLine)
             value: frames.read(source),
         }),
         Mid::Open { target, cells } => Did::Wants(Access::Opens { target, cells }),
-        Mid::Close { place } => close(frames, place, at),
-        Mid::Jump { place } => jump(frames, true, place, at),
-        Mid::JumpZ { source, place } => {
-            let taken = frames.read(source) == 0;
-            jump(frames, taken, place, at)
-        }
-        Mid::JumpN { source, place } => {
-            let taken = frames.read(source) != 0;
-            jump(frames, taken, place, at)
-        }
-        Mid::Turn => turn(frames, program, at),
-        Mid::Call { .. } | Mid::CallPtr { .. } => perform_call(frames, program, line),
-        Mid::Return { source } => {
-            let value = frames.read(source);
-            leave(frames, program, value, at)
-        }
+        Mid::Close { place } => close(frames, place, line.line),
         Mid::Put { source } => Did::Wants(Access::Puts(frames.read(source))),
         Mid::Get { target } => Did::Wants(Access::Gets { target }),
         Mid::Exit { source } => Did::Wants(Access::Exits(frames.read(source))),
+        _ => unreachable!(),
     }
 }
 
