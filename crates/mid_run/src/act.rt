@@ -1,15 +1,21 @@
-ghost use Rattle.std.specs.Prelude.{◌≡◌, ℕ, ◌+◌, ◌^◌, ◌<◌, ◌≤◌, length, IfOk, All, MatchOption, true, false};
+ghost use Rattle.std.specs.Prelude.{◌≡◌, ℕ, ◌+◌, ◌^◌, ◌<◌, ◌≤◌, length, IfOk, IsTrue, All, MatchOption, true, false};
+ghost use Rattle.srmt_base.specs.Types.{IsPromoted};
+ghost use Rattle.srmt_base.specs.Arith.{arith_of, is_comparison};
+ghost use Rattle.srmt_base.specs.Pointer.{pointer_sum_of, pointer_difference_of, pointer_comparison_of};
 ghost use Rattle.srmt_base.specs.Memory.{part_if};
 ghost use Rattle.mid_code.specs.Registers.{registers_list};
 ghost use Rattle.mid_code.specs.Program.{function_at};
 ghost use Rattle.mid_code.specs.Machine.{Goes, given, gives, moved_if, counts, part_of_function, calls, calls_value, is_callee, closes, leaves, register, arguments, act};
+ghost use Rattle.mid_run.specs.declared.act.Did.TheVariants.{Wants};
 ghost use Rattle.mid_run.specs.Kept.{TakesResult};
 ghost use Rattle.mid_run.specs.Acts.{IsThere, CanEnter, IsNewest, IsCall, CanAct, HasDone};
 ghost use Rattle.mid_run.specs.Groups.{IsOfNumbers, IsOfPointers, IsOfFlow, IsAccess};
 
 use crate::frames::Frames;
 use mid_code::{Access, Mid, MidLine, MidProgram, Registers};
-use srmt_base::{Trap, arith, convert, pointer_comparison, pointer_difference, pointer_sum};
+use srmt_base::{
+    Op, Trap, Ty, arith, convert, pointer_comparison, pointer_difference, pointer_sum,
+};
 
 /// What an instruction did.
 #[derive(Clone, Copy, Debug)]
@@ -46,7 +52,7 @@ pub(crate) fn perform(frames: &mut Frames, program: &MidProgram, line: &MidLine)
             let value = frames.read(source);
             leave(frames, program, value, line.line)
         }
-        _ => want(frames, program, line),
+        _ => Did::Wants(wanted(frames, program, line)),
     }
 }
 
@@ -70,10 +76,7 @@ fn set_number(frames: &mut Frames, program: &MidProgram, line: &MidLine) -> Did
             target,
             left,
             right,
-        } => {
-            let outcome = arith(op, ty, frames.read(left), frames.read(right));
-            set_or_trap(frames, target, outcome, at)
-        }
+        } => compute(frames, op, ty, target, left, right, at),
         Mid::Conv {
             from,
             to,
@@ -104,28 +107,19 @@ fn set_from_pointers(frames: &mut Frames, program: &MidProgram, line: &MidLine) 
             ty,
             negated,
             scale,
-        } => {
-            let outcome = pointer_sum(frames.read(pointer), ty, frames.read(index), negated, scale);
-            set_or_trap(frames, target, outcome, at)
-        }
+        } => move_pointer(frames, target, pointer, index, ty, negated, scale, at),
         Mid::PtrDiff {
             target,
             left,
             right,
             scale,
-        } => {
-            let outcome = pointer_difference(frames.read(left), frames.read(right), scale);
-            set_or_trap(frames, target, outcome, at)
-        }
+        } => subtract(frames, target, left, right, scale, at),
         Mid::PtrCmp {
             op,
             target,
             left,
             right,
-        } => {
-            let outcome = pointer_comparison(op, frames.read(left), frames.read(right));
-            set_or_trap(frames, target, outcome, at)
-        }
+        } => compare(frames, op, target, left, right, at),
         Mid::GlobAddr { target, object } => set(frames, target, u64::from(object) * 65536, at),
         _ => unreachable!(),
     }
@@ -155,33 +149,33 @@ fn go_on(frames: &mut Frames, program: &MidProgram, line: &MidLine) -> Did
 }
 
 /// What an instruction wants of memory or of the outside.
-fn want(frames: &Frames, program: &MidProgram, line: &MidLine) -> Did
+fn wanted(frames: &Frames, program: &MidProgram, line: &MidLine) -> Access
     requires can { CanAct program.now line.now.mid frames.now.machine }
     requires access { IsAccess line.now.mid }
-    ensures { HasDone (act program.now line.now.mid line.now.line frames.now.machine) line.now.line frames.now frames.now result }
+    ensures { HasDone (act program.now line.now.mid line.now.line frames.now.machine) line.now.line frames.now frames.now (Wants result) }
 {
     match line.mid {
-        Mid::Load { target, pointer } => Did::Wants(Access::Loads {
+        Mid::Load { target, pointer } => Access::Loads {
             target,
             pointer: frames.read(pointer),
-        }),
-        Mid::Store { pointer, source } => Did::Wants(Access::Stores {
+        },
+        Mid::Store { pointer, source } => Access::Stores {
             pointer: frames.read(pointer),
             value: frames.read(source),
-        }),
-        Mid::VLoad { target, pointer } => Did::Wants(Access::VolatileLoads {
+        },
+        Mid::VLoad { target, pointer } => Access::VolatileLoads {
             target,
             pointer: frames.read(pointer),
-        }),
-        Mid::VStore { pointer, source } => Did::Wants(Access::VolatileStores {
+        },
+        Mid::VStore { pointer, source } => Access::VolatileStores {
             pointer: frames.read(pointer),
             value: frames.read(source),
-        }),
-        Mid::Open { target, cells } => Did::Wants(Access::Opens { target, cells }),
+        },
+        Mid::Open { target, cells } => Access::Opens { target, cells },
         Mid::Close { place } => close(frames, place, line.line),
-        Mid::Put { source } => Did::Wants(Access::Puts(frames.read(source))),
-        Mid::Get { target } => Did::Wants(Access::Gets { target }),
-        Mid::Exit { source } => Did::Wants(Access::Exits(frames.read(source))),
+        Mid::Put { source } => Access::Puts(frames.read(source)),
+        Mid::Get { target } => Access::Gets { target },
+        Mid::Exit { source } => Access::Exits(frames.read(source)),
         _ => unreachable!(),
     }
 }
@@ -238,6 +232,66 @@ fn set_or_trap(frames: &mut Frames, target: u16, outcome: Result<u64, Trap>, at:
         Ok(value) => set(frames, target, value, at),
         Err(trap) => Did::Trapped(trap, at),
     }
+}
+
+/// Applies an operator to two registers.
+fn compute(frames: &mut Frames, op: Op, ty: Ty, target: u16, left: u16, right: u16, at: u32) -> Did
+    requires place { frames.old.machine.top.place + 1 < 2 ^ 32 }
+    requires promoted { IsPromoted ty }
+    requires target { IsThere frames.old.machine target }
+    requires left { IsThere frames.old.machine left }
+    requires right { IsThere frames.old.machine right }
+    ensures { let m = frames.old.machine in HasDone (gives target at m (arith_of op ty (register m left) (register m right))) at frames.old frames.new result }
+{
+    let outcome = arith(op, ty, frames.read(left), frames.read(right));
+    set_or_trap(frames, target, outcome, at)
+}
+
+/// Moves a pointer by an index.
+fn move_pointer(
+    frames: &mut Frames,
+    target: u16,
+    pointer: u16,
+    index: u16,
+    ty: Ty,
+    negated: bool,
+    scale: u16,
+    at: u32,
+) -> Did
+    requires place { frames.old.machine.top.place + 1 < 2 ^ 32 }
+    requires target { IsThere frames.old.machine target }
+    requires pointer { IsThere frames.old.machine pointer }
+    requires index { IsThere frames.old.machine index }
+    ensures { let m = frames.old.machine in HasDone (gives target at m (pointer_sum_of (register m pointer) ty (register m index) negated scale)) at frames.old frames.new result }
+{
+    let outcome = pointer_sum(frames.read(pointer), ty, frames.read(index), negated, scale);
+    set_or_trap(frames, target, outcome, at)
+}
+
+/// Takes the difference of two pointers.
+fn subtract(frames: &mut Frames, target: u16, left: u16, right: u16, scale: u16, at: u32) -> Did
+    requires place { frames.old.machine.top.place + 1 < 2 ^ 32 }
+    requires scale { 1 ≤ scale }
+    requires target { IsThere frames.old.machine target }
+    requires left { IsThere frames.old.machine left }
+    requires right { IsThere frames.old.machine right }
+    ensures { let m = frames.old.machine in HasDone (gives target at m (pointer_difference_of (register m left) (register m right) scale)) at frames.old frames.new result }
+{
+    let outcome = pointer_difference(frames.read(left), frames.read(right), scale);
+    set_or_trap(frames, target, outcome, at)
+}
+
+/// Compares two pointers.
+fn compare(frames: &mut Frames, op: Op, target: u16, left: u16, right: u16, at: u32) -> Did
+    requires place { frames.old.machine.top.place + 1 < 2 ^ 32 }
+    requires comparison { IsTrue (is_comparison op) }
+    requires target { IsThere frames.old.machine target }
+    requires left { IsThere frames.old.machine left }
+    requires right { IsThere frames.old.machine right }
+    ensures { let m = frames.old.machine in HasDone (gives target at m (pointer_comparison_of op (register m left) (register m right))) at frames.old frames.new result }
+{
+    let outcome = pointer_comparison(op, frames.read(left), frames.read(right));
+    set_or_trap(frames, target, outcome, at)
 }
 
 /// A jump is taken or not.
@@ -341,16 +395,16 @@ fn callee(program: &MidProgram, value: u64, ty: u16) -> Option<u16>
 }
 
 /// The newest object of the activation is to end.
-fn close(frames: &Frames, place: u32, at: u32) -> Did
+fn close(frames: &Frames, place: u32, at: u32) -> Access
     requires { IsNewest place frames.now.machine.top.opened }
-    ensures { HasDone (closes place at frames.now.machine.top.opened) at frames.now frames.now result }
+    ensures { HasDone (closes place at frames.now.machine.top.opened) at frames.now frames.now (Wants result) }
 {
     let _line = at;
     let _place = place;
     let Some(number) = frames.newest() else {
         unreachable!();
     };
-    Did::Wants(Access::Closes { number })
+    Access::Closes { number }
 }
 
 /// Leaves the function with its result.
