@@ -1,15 +1,17 @@
 ghost use Rattle.std.specs.Prelude.{◌≡◌, ℕ, ◌+◌, ◌^◌, ◌<◌, ◌≤◌, length, IfOk, IsTrue, All, MatchOption, true, false};
 ghost use Rattle.srmt_base.specs.Types.{IsPromoted};
 ghost use Rattle.srmt_base.specs.Arith.{arith_of, is_comparison};
+ghost use Rattle.srmt_base.specs.Convert.{convert_of};
 ghost use Rattle.srmt_base.specs.Pointer.{pointer_sum_of, pointer_difference_of, pointer_comparison_of};
 ghost use Rattle.srmt_base.specs.Memory.{part_if};
 ghost use Rattle.mid_code.specs.Registers.{registers_list};
 ghost use Rattle.mid_code.specs.Program.{function_at};
-ghost use Rattle.mid_code.specs.Machine.{Goes, given, gives, moved_if, counts, part_of_function, calls, calls_value, is_callee, closes, leaves, register, arguments, act};
+ghost use Rattle.mid_code.specs.Machine.{Goes, Reaches, given, gives, moved_if, counts, part_of_function, calls, calls_value, is_callee, closes, leaves, register, arguments, act};
+ghost use Rattle.mid_code.specs.declared.access.Access.TheVariants.{Loads, Stores};
 ghost use Rattle.mid_run.specs.declared.act.Did.TheVariants.{Wants};
 ghost use Rattle.mid_run.specs.Kept.{TakesResult};
 ghost use Rattle.mid_run.specs.Acts.{IsThere, CanEnter, IsNewest, IsCall, CanAct, HasDone};
-ghost use Rattle.mid_run.specs.Groups.{IsOfNumbers, IsOfPointers, IsOfFlow, IsAccess};
+ghost use Rattle.mid_run.specs.Groups.{IsOfPointers, IsOfFlow, IsAccess};
 
 use crate::frames::Frames;
 use mid_code::{Access, Mid, MidLine, MidProgram, Registers};
@@ -35,41 +37,10 @@ pub(crate) fn perform(frames: &mut Frames, program: &MidProgram, line: &MidLine)
     requires can { CanAct program.now line.now.mid frames.old.machine }
     ensures { HasDone (act program.now line.now.mid line.now.line frames.old.machine) line.now.line frames.old frames.new result }
 {
-    match line.mid {
-        Mid::Const { .. }
-        | Mid::Move { .. }
-        | Mid::Arith { .. }
-        | Mid::Conv { .. }
-        | Mid::FunAddr { .. } => set_number(frames, program, line),
-        Mid::PtrAdd { .. } | Mid::PtrDiff { .. } | Mid::PtrCmp { .. } | Mid::GlobAddr { .. } => {
-            set_from_pointers(frames, program, line)
-        }
-        Mid::Jump { .. } | Mid::JumpZ { .. } | Mid::JumpN { .. } | Mid::Turn => {
-            go_on(frames, program, line)
-        }
-        Mid::Call { .. } | Mid::CallPtr { .. } => perform_call(frames, program, line),
-        Mid::Return { source } => {
-            let value = frames.read(source);
-            leave(frames, program, value, line.line)
-        }
-        _ => Did::Wants(wanted(frames, program, line)),
-    }
-}
-
-/// Sets a register to a number, from numbers alone.
-fn set_number(frames: &mut Frames, program: &MidProgram, line: &MidLine) -> Did
-    requires place { frames.old.machine.top.place + 1 < 2 ^ 32 }
-    requires can { CanAct program.now line.now.mid frames.old.machine }
-    requires number { IsOfNumbers line.now.mid }
-    ensures { HasDone (act program.now line.now.mid line.now.line frames.old.machine) line.now.line frames.old frames.new result }
-{
     let at = line.line;
     match line.mid {
         Mid::Const { target, value } => set(frames, target, value, at),
-        Mid::Move { target, source } => {
-            let value = frames.read(source);
-            set(frames, target, value, at)
-        }
+        Mid::Move { target, source } => copy(frames, target, source, at),
         Mid::Arith {
             op,
             ty,
@@ -82,16 +53,24 @@ fn set_number(frames: &mut Frames, program: &MidProgram, line: &MidLine) -> Did
             to,
             target,
             source,
-        } => {
-            let value = convert(from, to, frames.read(source));
-            set(frames, target, value, at)
+        } => convert_to(frames, from, to, target, source, at),
+        Mid::PtrAdd { .. } | Mid::PtrDiff { .. } | Mid::PtrCmp { .. } => {
+            set_from_pointers(frames, program, line)
         }
+        Mid::GlobAddr { target, object } => set(frames, target, u64::from(object) * 65536, at),
         Mid::FunAddr { target, function } => set(frames, target, u64::from(function), at),
-        _ => unreachable!(),
+        Mid::Load { target, pointer } => load(frames, target, pointer, at),
+        Mid::Store { pointer, source } => store(frames, pointer, source, at),
+        Mid::Jump { .. } | Mid::JumpZ { .. } | Mid::JumpN { .. } | Mid::Turn => {
+            go_on(frames, program, line)
+        }
+        Mid::Call { .. } | Mid::CallPtr { .. } => perform_call(frames, program, line),
+        Mid::Return { source } => leave(frames, program, source, at),
+        _ => Did::Wants(wanted(frames, program, line)),
     }
 }
 
-/// Sets a register to a pointer, or to what pointers give.
+/// Sets a register to what pointers give.
 fn set_from_pointers(frames: &mut Frames, program: &MidProgram, line: &MidLine) -> Did
     requires place { frames.old.machine.top.place + 1 < 2 ^ 32 }
     requires can { CanAct program.now line.now.mid frames.old.machine }
@@ -120,7 +99,6 @@ fn set_from_pointers(frames: &mut Frames, program: &MidProgram, line: &MidLine) 
             left,
             right,
         } => compare(frames, op, target, left, right, at),
-        Mid::GlobAddr { target, object } => set(frames, target, u64::from(object) * 65536, at),
         _ => unreachable!(),
     }
 }
@@ -148,21 +126,13 @@ fn go_on(frames: &mut Frames, program: &MidProgram, line: &MidLine) -> Did
     }
 }
 
-/// What an instruction wants of memory or of the outside.
+/// What an instruction other than a plain read or write wants of memory or of the outside.
 fn wanted(frames: &Frames, program: &MidProgram, line: &MidLine) -> Access
     requires can { CanAct program.now line.now.mid frames.now.machine }
     requires access { IsAccess line.now.mid }
     ensures { HasDone (act program.now line.now.mid line.now.line frames.now.machine) line.now.line frames.now frames.now (Wants result) }
 {
     match line.mid {
-        Mid::Load { target, pointer } => Access::Loads {
-            target,
-            pointer: frames.read(pointer),
-        },
-        Mid::Store { pointer, source } => Access::Stores {
-            pointer: frames.read(pointer),
-            value: frames.read(source),
-        },
         Mid::VLoad { target, pointer } => Access::VolatileLoads {
             target,
             pointer: frames.read(pointer),
@@ -234,6 +204,28 @@ fn set_or_trap(frames: &mut Frames, target: u16, outcome: Result<u64, Trap>, at:
     }
 }
 
+/// Copies a register.
+fn copy(frames: &mut Frames, target: u16, source: u16, at: u32) -> Did
+    requires place { frames.old.machine.top.place + 1 < 2 ^ 32 }
+    requires target { IsThere frames.old.machine target }
+    requires source { IsThere frames.old.machine source }
+    ensures { HasDone (Goes (given target (register frames.old.machine source) frames.old.machine)) at frames.old frames.new result }
+{
+    let value = frames.read(source);
+    set(frames, target, value, at)
+}
+
+/// Converts a register from a type to another.
+fn convert_to(frames: &mut Frames, from: Ty, to: Ty, target: u16, source: u16, at: u32) -> Did
+    requires place { frames.old.machine.top.place + 1 < 2 ^ 32 }
+    requires target { IsThere frames.old.machine target }
+    requires source { IsThere frames.old.machine source }
+    ensures { let m = frames.old.machine in HasDone (Goes (given target (convert_of from to (register m source)) m)) at frames.old frames.new result }
+{
+    let value = convert(from, to, frames.read(source));
+    set(frames, target, value, at)
+}
+
 /// Applies an operator to two registers.
 fn compute(frames: &mut Frames, op: Op, ty: Ty, target: u16, left: u16, right: u16, at: u32) -> Did
     requires place { frames.old.machine.top.place + 1 < 2 ^ 32 }
@@ -292,6 +284,29 @@ fn compare(frames: &mut Frames, op: Op, target: u16, left: u16, right: u16, at: 
 {
     let outcome = pointer_comparison(op, frames.read(left), frames.read(right));
     set_or_trap(frames, target, outcome, at)
+}
+
+/// A cell is to be read.
+fn load(frames: &Frames, target: u16, pointer: u16, at: u32) -> Did
+    requires target { IsThere frames.now.machine target }
+    requires pointer { IsThere frames.now.machine pointer }
+    ensures { HasDone (Reaches (Loads target (register frames.now.machine pointer)) at) at frames.now frames.now result }
+{
+    let _line = at;
+    let pointer = frames.read(pointer);
+    Did::Wants(Access::Loads { target, pointer })
+}
+
+/// A cell is to be written.
+fn store(frames: &Frames, pointer: u16, source: u16, at: u32) -> Did
+    requires pointer { IsThere frames.now.machine pointer }
+    requires source { IsThere frames.now.machine source }
+    ensures { let m = frames.now.machine in HasDone (Reaches (Stores (register m pointer) (register m source)) at) at frames.now frames.now result }
+{
+    let _line = at;
+    let pointer = frames.read(pointer);
+    let value = frames.read(source);
+    Did::Wants(Access::Stores { pointer, value })
 }
 
 /// A jump is taken or not.
@@ -407,13 +422,14 @@ fn close(frames: &Frames, place: u32, at: u32) -> Access
     Access::Closes { number }
 }
 
-/// Leaves the function with its result.
-fn leave(frames: &mut Frames, program: &MidProgram, value: u64, at: u32) -> Did
+/// Leaves the function with a register as its result.
+fn leave(frames: &mut Frames, program: &MidProgram, source: u16, at: u32) -> Did
     requires caller { TakesResult frames.old.machine.top.into frames.old.machine.below }
-    requires small { value < 2 ^ 44 }
-    ensures { HasDone (leaves (part_of_function program.now frames.old.machine.top.function) value frames.old.machine.below frames.old.machine) at frames.old frames.new result }
+    requires source { IsThere frames.old.machine source }
+    ensures { let m = frames.old.machine in HasDone (leaves (part_of_function program.now m.top.function) (register m source) m.below m) at frames.old frames.new result }
 {
     let _line = at;
+    let value = frames.read(source);
     let protected = frames.function() <= program.main_functions;
     frames.leave(protected, value);
     Did::Went
