@@ -3,6 +3,7 @@ ghost use Rattle.srmt_base.specs.Types.{IsPromoted};
 ghost use Rattle.srmt_base.specs.Arith.{arith_of, is_comparison};
 ghost use Rattle.srmt_base.specs.Convert.{convert_of};
 ghost use Rattle.srmt_base.specs.Pointer.{pointer_sum_of, pointer_difference_of, pointer_comparison_of};
+ghost use Rattle.srmt_base.specs.Objects.{pointer_to};
 ghost use Rattle.srmt_base.specs.Memory.{part_if};
 ghost use Rattle.mid_code.specs.Registers.{registers_list};
 ghost use Rattle.mid_code.specs.Program.{function_at};
@@ -37,35 +38,34 @@ pub(crate) fn perform(frames: &mut Frames, program: &MidProgram, line: &MidLine)
     requires can { CanAct program.now line.now.mid frames.old.machine }
     ensures { HasDone (act program.now line.now.mid line.now.line frames.old.machine) line.now.line frames.old frames.new result }
 {
-    let at = line.line;
     match line.mid {
-        Mid::Const { target, value } => set(frames, target, value, at),
-        Mid::Move { target, source } => copy(frames, target, source, at),
+        Mid::Const { target, value } => set(frames, target, value, line.line),
+        Mid::Move { target, source } => copy(frames, target, source, line.line),
         Mid::Arith {
             op,
             ty,
             target,
             left,
             right,
-        } => compute(frames, op, ty, target, left, right, at),
+        } => compute(frames, op, ty, target, left, right, line.line),
         Mid::Conv {
             from,
             to,
             target,
             source,
-        } => convert_to(frames, from, to, target, source, at),
+        } => convert_to(frames, from, to, target, source, line.line),
         Mid::PtrAdd { .. } | Mid::PtrDiff { .. } | Mid::PtrCmp { .. } => {
             set_from_pointers(frames, program, line)
         }
-        Mid::GlobAddr { target, object } => set(frames, target, u64::from(object) * 65536, at),
-        Mid::FunAddr { target, function } => set(frames, target, u64::from(function), at),
-        Mid::Load { target, pointer } => load(frames, target, pointer, at),
-        Mid::Store { pointer, source } => store(frames, pointer, source, at),
+        Mid::GlobAddr { target, object } => point(frames, target, object, line.line),
+        Mid::FunAddr { target, function } => set(frames, target, u64::from(function), line.line),
+        Mid::Load { target, pointer } => load(frames, target, pointer, line.line),
+        Mid::Store { pointer, source } => store(frames, pointer, source, line.line),
         Mid::Jump { .. } | Mid::JumpZ { .. } | Mid::JumpN { .. } | Mid::Turn => {
             go_on(frames, program, line)
         }
         Mid::Call { .. } | Mid::CallPtr { .. } => perform_call(frames, program, line),
-        Mid::Return { source } => leave(frames, program, source, at),
+        Mid::Return { source } => leave(frames, program, source, line.line),
         _ => Did::Wants(wanted(frames, program, line)),
     }
 }
@@ -224,6 +224,16 @@ fn convert_to(frames: &mut Frames, from: Ty, to: Ty, target: u16, source: u16, a
 {
     let value = convert(from, to, frames.read(source));
     set(frames, target, value, at)
+}
+
+/// The address of a static object goes into the target register.
+fn point(frames: &mut Frames, target: u16, object: u32, at: u32) -> Did
+    requires place { frames.old.machine.top.place + 1 < 2 ^ 32 }
+    requires target { IsThere frames.old.machine target }
+    requires small { pointer_to object 0 < 2 ^ 44 }
+    ensures { HasDone (Goes (given target (pointer_to object 0) frames.old.machine)) at frames.old frames.new result }
+{
+    set(frames, target, u64::from(object) * 65536, at)
 }
 
 /// Applies an operator to two registers.
