@@ -8,3 +8,4 @@ pub mod Outside
 pub mod Binary
 pub mod BinaryView
 pub mod Crossing
+pub mod Groups
