@@ -3,25 +3,33 @@ use mid_code::Mid;
 use srmt_base::{Op, Trap, Ty};
 use std::test::Fail;
 
-#[test]
-fn numbers(rt: HostRuntime) -> Result<(), Fail> {
-    let copy = Mid::Move {
+/// Copies register 1 into register 0.
+fn copy() -> Mid {
+    Mid::Move {
         target: 0,
         source: 1,
-    };
-    let to_char = Mid::Conv {
+    }
+}
+
+/// Converts register 0 from `int` to `unsigned char`.
+fn to_char() -> Mid {
+    Mid::Conv {
         from: Ty::Int,
         to: Ty::UChar,
         target: 0,
         source: 0,
-    };
+    }
+}
+
+#[test]
+fn numbers(rt: HostRuntime) -> Result<(), Fail> {
     let most = 2_147_483_647;
     check(
         &rt,
         rt.alloc(),
         &[
             exits(&[set(0, 7), exit()], 7),
-            exits(&[set(1, 300), copy, exit()], 44),
+            exits(&[set(1, 300), copy(), exit()], 44),
             exits(
                 &[set(1, 40), set(2, 2), arith(Op::Add, 0, 1, 2), exit()],
                 42,
@@ -41,7 +49,7 @@ fn numbers(rt: HostRuntime) -> Result<(), Fail> {
                 Trap::ShiftRange,
                 2,
             ),
-            exits(&[set(0, 321), to_char, exit()], 65),
+            exits(&[set(0, 321), to_char(), exit()], 65),
         ],
     )?;
     Ok(())
