@@ -36,7 +36,7 @@ pub unreachable-requires-in_default-push : goal.unreachable-requires-in_default-
 unreachable-requires-in_default-push c =
     let few = few_entries c.args.program.now (state_of_run c.self.inside) (subst (FitsBinary c.args.program.now) (sym c.self.view_is) c.requires.fits) in
     let long = length-reverse c.self.inside.entries.items in
-    omega (arith, few, long, c.self.inside.entries.ok.0, c.self.invariant.1, c.left-left.ensures.depth, c.if-left-eq0.false, c.in_default-push.ensures.full)
+    omega (arith, few, long, c.self.inside.entries.ok.0, c.self.invariant.1, c.left-left.ensures.depth, c.in_default-push.ensures.full)
 
 pub overflow_cast-count : goal.overflow_cast-count
 overflow_cast-count c =
