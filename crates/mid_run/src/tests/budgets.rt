@@ -4,111 +4,48 @@ use srmt_base::{Limits, Op, SourceEnd, Trap};
 use srmt_outside::MemOutlet;
 use std::test::Fail;
 
+/// A call of a function, and the end.
+fn enters(function: u16) -> [Mid; 2] {
+    let target = 0;
+    let args = args(0);
+    let call = Mid::Call {
+        target,
+        function,
+        args,
+    };
+    [call, exit()]
+}
+
+/// Ten cells twice, one after the other, and the end.
+fn opens_twice() -> [Mid; 5] {
+    let open = Mid::Open {
+        target: 4,
+        cells: 10,
+    };
+    [
+        open,
+        Mid::Close { place: 0 },
+        open,
+        Mid::Close { place: 2 },
+        exit(),
+    ]
+}
+
 #[test]
 fn budgets_at_their_limits(rt: HostRuntime) -> Result<(), Fail> {
+    let turns = [Mid::Turn, Mid::Turn, exit()];
+    let adds = enters(2);
+    let puts = enters(4);
+    let opens = opens_twice();
     let rows: [(u64, u32, u32, &[Mid], SourceEnd); 8] = [
-        (3, 1, 3, &[Mid::Turn, Mid::Turn, exit()], SourceEnd::Exit(0)),
-        (
-            2,
-            1,
-            3,
-            &[Mid::Turn, Mid::Turn, exit()],
-            SourceEnd::Trap(Trap::Turns, 2),
-        ),
-        (
-            2,
-            2,
-            3,
-            &[
-                Mid::Call {
-                    target: 0,
-                    function: 2,
-                    args: args(0),
-                },
-                exit(),
-            ],
-            SourceEnd::Exit(1),
-        ),
-        (
-            1,
-            2,
-            3,
-            &[
-                Mid::Call {
-                    target: 0,
-                    function: 2,
-                    args: args(0),
-                },
-                exit(),
-            ],
-            SourceEnd::Trap(Trap::Turns, 200),
-        ),
-        (
-            1,
-            1,
-            3,
-            &[
-                Mid::Call {
-                    target: 0,
-                    function: 2,
-                    args: args(0),
-                },
-                exit(),
-            ],
-            SourceEnd::Trap(Trap::Depth, 200),
-        ),
-        (
-            1,
-            1,
-            3,
-            &[
-                Mid::Call {
-                    target: 1,
-                    function: 4,
-                    args: args(0),
-                },
-                exit(),
-            ],
-            SourceEnd::Exit(0),
-        ),
-        (
-            1,
-            1,
-            13,
-            &[
-                Mid::Open {
-                    target: 4,
-                    cells: 10,
-                },
-                Mid::Close { place: 0 },
-                Mid::Open {
-                    target: 4,
-                    cells: 10,
-                },
-                Mid::Close { place: 2 },
-                exit(),
-            ],
-            SourceEnd::Exit(0),
-        ),
-        (
-            1,
-            1,
-            12,
-            &[
-                Mid::Open {
-                    target: 4,
-                    cells: 10,
-                },
-                Mid::Close { place: 0 },
-                Mid::Open {
-                    target: 4,
-                    cells: 10,
-                },
-                Mid::Close { place: 2 },
-                exit(),
-            ],
-            SourceEnd::Trap(Trap::Store, 1),
-        ),
+        (3, 1, 3, &turns, SourceEnd::Exit(0)),
+        (2, 1, 3, &turns, SourceEnd::Trap(Trap::Turns, 2)),
+        (2, 2, 3, &adds, SourceEnd::Exit(1)),
+        (1, 2, 3, &adds, SourceEnd::Trap(Trap::Turns, 200)),
+        (1, 1, 3, &adds, SourceEnd::Trap(Trap::Depth, 200)),
+        (1, 1, 3, &puts, SourceEnd::Exit(0)),
+        (1, 1, 13, &opens, SourceEnd::Exit(0)),
+        (1, 1, 12, &opens, SourceEnd::Trap(Trap::Store, 1)),
     ];
     for (turns, depth, cells, code, end) in rows {
         let limits = Limits {
