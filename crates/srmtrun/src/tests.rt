@@ -7,6 +7,9 @@ use srmt_outside::{MemFiles, MemOutlet, MemSink, SureFiles};
 use std::alloc::{AllocError, Global};
 use std::test::Fail;
 
+mod pairs;
+mod schedules;
+
 const FORM: RunAnswer = RunAnswer::Refused(CompileRefusal::Form);
 
 // The words of a command.
@@ -18,7 +21,7 @@ fn words(alloc: Global, texts: &[&str]) -> Result<Vec<String>, AllocError> {
     Ok(words)
 }
 
-// Runs a source from files that never fail.
+// Runs a source on one thread, from files that never fail.
 fn run(alloc: Global, source: &[u8], outlet: &mut MemOutlet) -> Result<Finished, AllocError> {
     let mut files = SureFiles::new(alloc);
     files.give(alloc, "a.c", source)?;
@@ -123,9 +126,12 @@ fn limits_are_exact(rt: HostRuntime) -> Result<(), Fail> {
 #[test]
 fn words_are_taken(rt: HostRuntime) -> Result<(), Fail> {
     let alloc = rt.alloc();
-    let rows: [(&[&str], u8); 8] = [
+    let rows: [(&[&str], u8); 11] = [
         (&["a.c", "--single"], 7),
         (&["--single", "a.c"], 7),
+        (&["a.c", "--alternate"], 7),
+        (&["--alternate", "a.c"], 7),
+        (&["--alternate", "--single"], 126),
         (&[], 126),
         (&["a.c"], 126),
         (&["a.c", "--double"], 126),
