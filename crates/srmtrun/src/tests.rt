@@ -23,10 +23,20 @@ fn words(alloc: Global, texts: &[&str]) -> Result<Vec<String>, AllocError> {
 
 // Runs a source on one thread, from files that never fail.
 fn run(alloc: Global, source: &[u8], outlet: &mut MemOutlet) -> Result<Finished, AllocError> {
+    run_by(alloc, "--single", source, outlet)
+}
+
+// Runs a source in the mode of a flag, from files that never fail.
+fn run_by(
+    alloc: Global,
+    flag: &str,
+    source: &[u8],
+    outlet: &mut MemOutlet,
+) -> Result<Finished, AllocError> {
     let mut files = SureFiles::new(alloc);
     files.give(alloc, "a.c", source)?;
     let mut notes = MemSink::with_room(alloc, 0)?;
-    let words = words(alloc, &["a.c", "--single"])?;
+    let words = words(alloc, &["a.c", flag])?;
     Ok(srmtrun_still(alloc, &words, &mut files, outlet, &mut notes))
 }
 
@@ -89,8 +99,12 @@ fn other_sources_are_refused(rt: HostRuntime) -> Result<(), Fail> {
     for source in rows {
         let mut outlet = MemOutlet::with_room(rt.alloc(), 3)?;
         let finished = run(rt.alloc(), source, &mut outlet)?;
-        assert_eq!(rt; finished.answer, FORM, "{source:?}");
-        assert_eq!(rt; finished.status, 127);
+        let want = Finished {
+            status: 127,
+            answer: FORM,
+            noted: true,
+        };
+        assert_eq!(rt; finished, want, "{source:?}");
         assert!(rt; outlet.events().is_empty());
     }
     Ok(())
