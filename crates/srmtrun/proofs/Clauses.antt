@@ -1,36 +1,43 @@
 -- What the top call answers of a program that is told.
-use Rattle.std.proofs.Common.{◌≡◌, ◌⊎◌, ℕ, ◌≤◌, List, [], ◌∷◌, length, Option, Some, true, inl, inr, sym, ap, subst, ◌∙◌, arith}
+use Rattle.std.proofs.Common.{◌≡◌, ◌⊎◌, ℕ, ◌≤◌, List, [], ◌∷◌, length, Option, Some, true, inl, inr, refl, sym, ap, subst, ◌∙◌, arith}
 use Rattle.std.specs.Prelude.{IfSome}
 use Rattle.std.proofs.lemmas.Option.{same_Some}
 use Rattle.srmt_base.specs.declared.event.Event.{Event}
 use Rattle.srmt_outside.specs.Told.{Appends, AppendsPrefix}
 use Rattle.srmtrun.specs.declared.answer.RunAnswer.{RunAnswer}
-use Rattle.srmtrun.specs.declared.answer.RunAnswer.TheVariants.{Alone, Usage, ReadFault, TooLong, Refused, WriteFault, OutOfMemory}
+use Rattle.srmtrun.specs.declared.answer.RunAnswer.TheVariants.{Alone, Ran as RanBoth, Usage, ReadFault, TooLong, Refused, WriteFault, OutOfMemory}
 use Rattle.srmtrun.specs.declared.first_form.FirstForm.{FirstForm}
 use Rattle.srmtrun.specs.declared.words.Mode.{Mode}
-use Rattle.srmtrun.specs.declared.words.Mode.TheVariants.{Single}
+use Rattle.srmtrun.specs.declared.words.Mode.TheVariants.{Single, Alternate}
 use Rattle.srmtrun.specs.FirstForm.{IsFirstForm}
 use Rattle.srmtrun.specs.Meaning.{events_of, end_of}
-use Rattle.srmtrun.specs.Still.{Names, IsSource, IsNoSource, IsTooLong, AnswersForm}
+use Rattle.srmtrun.specs.Still.{Names, IsSource, IsNoSource, IsTooLong, RunsBoth, AnswersForm}
 use Rattle.srmtrun.specs.Parts.{Serves}
 use Rattle.srmtrun.specs.Words.{flag_of, names_source, Takes}
 use Rattle.srmtrun.specs.Reading.{first_form}
 use Rattle.srmtrun.proofs.Form.{first_form_again}
 
--- words that are taken name one program
+-- words that are taken name one program and one mode
 
 no_flag : (mode : Mode) (program : List ℕ) → names_source program ≡ true → program ≡ flag_of mode → ⊥
 no_flag Single program source e = let other : names_source (flag_of Single) ≡ true = ap names_source (sym e) ∙ source in absurd cc
+no_flag Alternate program source e = let other : names_source (flag_of Alternate) ≡ true = ap names_source (sym e) ∙ source in absurd cc
+
+one_flag : (m n : Mode) → flag_of m ≡ flag_of n → m ≡ n
+one_flag Single Single e = refl
+one_flag Alternate Alternate e = refl
+one_flag Single Alternate e = absurd cc
+one_flag Alternate Single e = absurd cc
 
 firsts : (a b c d : List ℕ) → a ∷ b ∷ [] ≡ c ∷ d ∷ [] → (a ≡ c) × (b ≡ d)
 firsts a b c d e = (cc, cc)
 
-pub one_program : (words : List (List ℕ)) (m n : Mode) (p q : List ℕ) → Takes words m p → Takes words n q → p ≡ q
+pub one_program : (words : List (List ℕ)) (m n : Mode) (p q : List ℕ) → Takes words m p → Takes words n q → (p ≡ q) × (m ≡ n)
 one_program words m n p q a b = by a.order b.order
   where
-    by : ((words ≡ p ∷ flag_of m ∷ []) ⊎ (words ≡ flag_of m ∷ p ∷ [])) → ((words ≡ q ∷ flag_of n ∷ []) ⊎ (words ≡ flag_of n ∷ q ∷ [])) → p ≡ q
-    by (inl x) (inl y) = (firsts p (flag_of m) q (flag_of n) (sym x ∙ y)).0
-    by (inr x) (inr y) = (firsts (flag_of m) p (flag_of n) q (sym x ∙ y)).1
+    by : ((words ≡ p ∷ flag_of m ∷ []) ⊎ (words ≡ flag_of m ∷ p ∷ [])) → ((words ≡ q ∷ flag_of n ∷ []) ⊎ (words ≡ flag_of n ∷ q ∷ [])) → (p ≡ q) × (m ≡ n)
+    by (inl x) (inl y) = let both = firsts p (flag_of m) q (flag_of n) (sym x ∙ y) in (both.0, one_flag m n both.1)
+    by (inr x) (inr y) = let both = firsts (flag_of m) p (flag_of n) q (sym x ∙ y) in (both.1, one_flag m n both.0)
     by (inl x) (inr y) = absurd (no_flag n p a.source (firsts p (flag_of m) (flag_of n) q (sym x ∙ y)).0)
     by (inr x) (inl y) = absurd (no_flag n p a.source (firsts (flag_of m) p q (flag_of n) (sym x ∙ y)).1)
 
@@ -40,14 +47,16 @@ same_form told bytes form other e is source =
     let told_bytes = subst (λ (t : Option (List ℕ)). IfSome t (λ b. b ≡ source.bytes)) e source.told_bytes in
     same_Some other form (sym (first_form_again source.bytes other source.is_form) ∙ ap first_form (sym told_bytes) ∙ first_form_again bytes form is)
 
-module _ (told : Option (List ℕ)) (bytes : List ℕ) (form : FirstForm) (e : told ≡ Some bytes) (within : length bytes ≤ 1048576) (is : IsFirstForm bytes form) (before after : Option (List Event)) (read_failed write_failed : Type 0) where
-  answers_form : (answer : RunAnswer) → Serves told before after read_failed write_failed answer → AnswersForm form before after read_failed write_failed answer
-  answers_form (Alone end) (other, source, ended, written) =
+module _ (told : Option (List ℕ)) (bytes : List ℕ) (form : FirstForm) (e : told ≡ Some bytes) (within : length bytes ≤ 1048576) (is : IsFirstForm bytes form) (before after : Option (List Event)) (read_failed write_failed : Type 0) (mode : Mode) where
+  answers_form : (answer : RunAnswer) → Serves mode told before after read_failed write_failed answer → AnswersForm mode form before after read_failed write_failed answer
+  answers_form (Alone end) (how, (other, source, ended, written)) =
       let same = same_form told bytes form other e is source in
-      (ended ∙ ap end_of same, subst (λ (f : FirstForm). Appends before after (events_of f)) same written)
-  answers_form WriteFault (failed, (other, source, written)) =
+      (how, ended ∙ ap end_of same, subst (λ (f : FirstForm). Appends before after (events_of f)) same written)
+  answers_form (RanBoth ran) (how, (other, source, ran_so)) =
+      (how, subst (λ (f : FirstForm). RunsBoth f before after write_failed ran) (same_form told bytes form other e is source) ran_so)
+  answers_form WriteFault (how, failed, (other, source, written)) =
       let same = same_form told bytes form other e is source in
-      (failed, subst (λ (f : FirstForm). AppendsPrefix before after (events_of f)) same written)
+      (how, failed, subst (λ (f : FirstForm). AppendsPrefix before after (events_of f)) same written)
   answers_form ReadFault s = s
   answers_form OutOfMemory s = s
   answers_form TooLong s = let long = subst IsTooLong e s.0 in absurd (omega arith)
@@ -57,9 +66,11 @@ module _ (told : Option (List ℕ)) (bytes : List ℕ) (form : FirstForm) (e : t
 -- A program that is told and of the first form is the one that was run.
 pub told_answers : (words : List (List ℕ)) (contents : List ℕ → Option (List ℕ)) (before after : Option (List Event)) (asks : RunAnswer → List ℕ → Type 0) (read_failed write_failed : Type 0) (answer : RunAnswer)
     → (answer ≡ Usage → (mode : Mode) (program : List ℕ) → Takes words mode program → ⊥)
-    → ((answer ≡ Usage → ⊥) → Names words (λ program. Serves (contents program) before after read_failed write_failed answer × asks answer program))
-    → (mode : Mode) (program bytes : List ℕ) (form : FirstForm) → Takes words mode program → contents program ≡ Some bytes → length bytes ≤ 1048576 → IsFirstForm bytes form → AnswersForm form before after read_failed write_failed answer
+    → ((answer ≡ Usage → ⊥) → Names words (λ mode program. Serves mode (contents program) before after read_failed write_failed answer × asks answer program))
+    → (mode : Mode) (program bytes : List ℕ) (form : FirstForm) → Takes words mode program → contents program ≡ Some bytes → length bytes ≤ 1048576 → IsFirstForm bytes form → AnswersForm mode form before after read_failed write_failed answer
 told_answers words contents before after asks read_failed write_failed answer usage served mode program bytes form taken e within is =
     let n = served (λ u. usage u mode program taken) in
-    let here : contents n.program ≡ Some bytes = ap contents (one_program words n.mode mode n.program program n.taken taken) ∙ e in
-    answers_form (contents n.program) bytes form here within is before after read_failed write_failed answer n.holds.0
+    let one = one_program words n.mode mode n.program program n.taken taken in
+    let here : contents n.program ≡ Some bytes = ap contents one.0 ∙ e in
+    subst (λ (m : Mode). AnswersForm m form before after read_failed write_failed answer) one.1
+    (answers_form (contents n.program) bytes form here within is before after read_failed write_failed n.mode answer n.holds.0)

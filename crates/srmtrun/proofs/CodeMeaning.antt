@@ -21,7 +21,7 @@ use Rattle.srmtrun.specs.declared.first_form.FirstForm.{FirstForm}
 use Rattle.srmtrun.specs.Meaning.{events_of, end_of}
 use Rattle.srmtrun.specs.Lowered.{put_code, tail_code, code_of, program_of, Implements}
 use Rattle.srmtrun.specs.FirstForm.{IsFirstForm}
-use Rattle.srmtrun.proofs.ValidCode.{program_valid}
+use Rattle.srmtrun.proofs.ValidCode.{program_sites}
 
 -- one step, and the rest of the run
 finishes_by : (program : MidProgram) (m next : State) (es fs : List Event) (end : SourceEnd) → step program m ≡ On next es → Finishes program next fs end → Finishes program m (es ++ fs) end
@@ -80,4 +80,4 @@ pub program_means : (form : FirstForm) (input : List ℕ) (limits : Limits) → 
 program_means form input limits = finishes_from form input limits form.puts [] 0 0 refl refl
 
 pub program_implements : (bytes : List ℕ) (form : FirstForm) (program : MidProgram) → IsFirstForm bytes form → program ≡ program_of form → Implements program form
-program_implements bytes form program is e = subst (λ (p : MidProgram). Implements p form) (sym e) (record { valid = program_valid bytes form is; means = program_means form })
+program_implements bytes form program is e = subst (λ (p : MidProgram). Implements p form) (sym e) (record { same = refl; sites = program_sites bytes form is; means = program_means form })

@@ -8,3 +8,4 @@ pub mod Limiting
 pub mod CodeMeaning
 pub mod Serving
 pub mod Clauses
+pub mod Growing

@@ -1,5 +1,5 @@
 -- What a run on one thread answers, from what its parts say.
-use Rattle.std.proofs.Common.{◌≡◌, ℕ, ◌+◌, ◌≤◌, List, [], ◌∷◌, ◌++◌, length, take, Option, Some, Result, Ok, Err, refl, sym, ap, subst, ◌∙◌, arith}
+use Rattle.std.proofs.Common.{◌≡◌, ◌⊎◌, inl, inr, ℕ, ◌+◌, ◌≤◌, List, [], ◌∷◌, ◌++◌, length, take, Option, Some, Result, Ok, Err, refl, sym, ap, subst, ◌∙◌, arith}
 use Rattle.std.specs.Prelude.{IfSome, IfOk, IfErr, option_map}
 use Rattle.std.proofs.Math.Seq.{take-append_seam, take-length}
 use Rattle.std.proofs.lemmas.Option.{IfSome_then}
@@ -11,18 +11,29 @@ use Rattle.mid_code.specs.declared.program.MidProgram.{MidProgram}
 use Rattle.mid_code.specs.Meaning.{State, Run, Running, Ended, NoWay, preceded, exec, started, Finishes, Middle}
 use Rattle.mid_code.proofs.Runs.{one_end, stays_ended, exec_on}
 use Rattle.mid_run.specs.Progress.{Progress, At, Over, Runs}
+use Rattle.world.specs.Ideal.{IsIdeal}
+use Rattle.world.proofs.Running.{ideal_sound, ideal_whole}
+use Rattle.pair_core.specs.declared.verdict.Ran.{Ran}
+use Rattle.pair_core.specs.declared.verdict.Verdict.TheVariants.{WriteFault as FaultVerdict}
+use Rattle.pair_core.specs.Answer.{IsAnswer, FollowsIdeal, verdict_as}
+use Rattle.pair_core.specs.Duo.{DuoState, opening_duo}
+use Rattle.pair_core.specs.Fit.{IsPrefix}
+use Rattle.pair_core.proofs.Sounds.{first_events}
 use Rattle.mid_run.specs.Progress.{end_of as progress_end}
 use Rattle.srmtrun.specs.declared.answer.RunAnswer.{RunAnswer}
-use Rattle.srmtrun.specs.declared.answer.RunAnswer.TheVariants.{Alone, Usage, ReadFault, TooLong, Refused, WriteFault, OutOfMemory}
+use Rattle.srmtrun.specs.declared.answer.RunAnswer.TheVariants.{Alone, Ran as RanBoth, Usage, ReadFault, TooLong, Refused, WriteFault, OutOfMemory}
 use Rattle.srmtrun.specs.declared.first_form.FormRefusal.{FormRefusal}
 use Rattle.srmtrun.specs.declared.first_form.FormRefusal.TheVariants.{Form, Memory}
 use Rattle.srmtrun.specs.declared.first_form.FirstForm.{FirstForm}
 use Rattle.srmtrun.specs.Answer.{answer_from, refused}
+use Rattle.srmtrun.specs.declared.words.Mode.{Mode}
+use Rattle.srmtrun.specs.declared.words.Mode.TheVariants.{Single, Alternate}
 use Rattle.srmtrun.specs.FirstForm.{IsFirstForm}
 use Rattle.srmtrun.specs.Lowered.{Implements}
 use Rattle.srmtrun.specs.Meaning.{events_of, end_of}
-use Rattle.srmtrun.specs.Still.{AsksFor}
-use Rattle.srmtrun.specs.Parts.{Serves, StopsRun}
+use Rattle.srmtrun.specs.declared.still.TheConstants.{LIMITS}
+use Rattle.srmtrun.specs.Still.{AsksFor, RunsBoth}
+use Rattle.srmtrun.specs.Parts.{Serves, StopsRun, RanBySides}
 
 -- a run that has not ended has written the first events of the whole run
 ended_front : (before : List Event) (r : Run) (fs : List Event) (end : SourceEnd) → preceded before r ≡ Ended end fs → take (length before) fs ≡ before
@@ -47,22 +58,62 @@ prefix_written program limits start end before after is so_far fs over means =
     let runs = subst (λ (s : Progress). Runs program s es end) is so_far.1 in
     (length es, so_far.2 ∙ ap (λ xs. option_map (λ told. told ++ xs) before) (sym (run_front program (started program [] limits) end es fs over runs means)))
 
-module _ (told : Option (List ℕ)) (before after : Option (List Event)) (read_failed write_failed : Type 0) (bytes : List ℕ) (same : IfSome told (λ t. t ≡ bytes)) (within : length bytes ≤ 1048576) where
-  pub refused_serves : (e : FormRefusal) → (e ≡ Form → (form : FirstForm) → IsFirstForm bytes form → ⊥) → Serves told before before read_failed write_failed (refused e)
+module _ (told : Option (List ℕ)) (before after : Option (List Event)) (read_failed write_failed : Type 0) (mode : Mode) (bytes : List ℕ) (same : IfSome told (λ t. t ≡ bytes)) (within : length bytes ≤ 1048576) where
+  pub refused_serves : (e : FormRefusal) → (e ≡ Form → (form : FirstForm) → IsFirstForm bytes form → ⊥) → Serves mode told before before read_failed write_failed (refused e)
   refused_serves Form none = (IfSome_then told same (λ t e. (subst (λ (b : List ℕ). length b ≤ 1048576) (sym e) within, λ form is. none refl form (subst (λ (b : List ℕ). IsFirstForm b form) e is))), refl)
   refused_serves Memory none = refl
 
-  pub run_serves : (limits : Limits) (program : MidProgram) (form : FirstForm) → IsFirstForm bytes form → Implements program form → (r : Result SourceEnd RunAnswer) → IfOk r (λ end. (events : List Event) × Middle program [] limits events end × Appends before after events) → IfErr r (StopsRun program limits before after write_failed) → Serves told before after read_failed write_failed (answer_from r)
-  run_serves limits program form is code (Ok end) ok err =
+  pub run_serves : mode ≡ Single → (limits : Limits) (program : MidProgram) (form : FirstForm) → IsFirstForm bytes form → Implements program form → (r : Result SourceEnd RunAnswer) → IfOk r (λ end. (events : List Event) × Middle program [] limits events end × Appends before after events) → IfErr r (StopsRun program limits before after write_failed) → Serves mode told before after read_failed write_failed (answer_from r)
+  run_serves how limits program form is code (Ok end) ok err =
       let one = one_end program (started program [] limits) ok.0 (events_of form) end (end_of form) ok.1 (code.means [] limits) in
-      (form, record { bytes = bytes; told_bytes = same; within = within; is_form = is }, one.1, ok.2 ∙ ap (λ es. option_map (λ told. told ++ es) before) one.0)
-  run_serves limits program form is code (Err WriteFault) ok err = (err.0, (form, record { bytes = bytes; told_bytes = same; within = within; is_form = is }, err.1 (events_of form) (end_of form) (code.means [] limits)))
-  run_serves limits program form is code (Err OutOfMemory) ok err = err
-  run_serves limits program form is code (Err (Alone end)) ok err = absurd err
-  run_serves limits program form is code (Err Usage) ok err = absurd err
-  run_serves limits program form is code (Err ReadFault) ok err = absurd err
-  run_serves limits program form is code (Err TooLong) ok err = absurd err
-  run_serves limits program form is code (Err (Refused cause)) ok err = absurd err
+      (how, (form, record { bytes = bytes; told_bytes = same; within = within; is_form = is }, one.1, ok.2 ∙ ap (λ es. option_map (λ told. told ++ es) before) one.0))
+  run_serves how limits program form is code (Err WriteFault) ok err = (how, err.0, (form, record { bytes = bytes; told_bytes = same; within = within; is_form = is }, err.1 (events_of form) (end_of form) (code.means [] limits)))
+  run_serves how limits program form is code (Err OutOfMemory) ok err = err
+  run_serves how limits program form is code (Err (Alone end)) ok err = absurd err
+  run_serves how limits program form is code (Err (RanBoth ran)) ok err = absurd err
+  run_serves how limits program form is code (Err Usage) ok err = absurd err
+  run_serves how limits program form is code (Err ReadFault) ok err = absurd err
+  run_serves how limits program form is code (Err TooLong) ok err = absurd err
+  run_serves how limits program form is code (Err (Refused cause)) ok err = absurd err
+
+-- what alternate answers of a core that was started for the program
+pub ran_by_sides : (program pair : MidProgram) (input : List ℕ) (duo : DuoState) (before after : Option (List Event)) (write_failed : Type 0) (ran : Ran) → pair ≡ program → input ≡ [] → duo ≡ opening_duo pair input LIMITS →
+    ((given : List ℕ) (limits : Limits) → duo ≡ opening_duo pair given limits → (events : List Event) × Appends before after events × IsAnswer pair given limits events ran × FollowsIdeal pair given limits events ran) →
+    (ran.verdict ≡ FaultVerdict → write_failed) → RanBySides program LIMITS before after write_failed ran
+ran_by_sides program pair input duo before after write_failed ran same none opening answers failed =
+    let a = answers [] LIMITS (opening ∙ ap (λ (i : List ℕ). opening_duo pair i LIMITS) none) in
+    subst (λ (p : MidProgram). RanBySides p LIMITS before after write_failed ran) same (record { events = a.0; written = a.1; answer = a.2; follows = a.3; failed = failed })
+
+-- both sides of the program give what the source does
+pub both_runs : (program : MidProgram) (form : FirstForm) (before after : Option (List Event)) (write_failed : Type 0) (ran : Ran) → Implements program form → RanBySides program LIMITS before after write_failed ran → RunsBoth form before after write_failed ran
+both_runs program form before after write_failed ran code r = record {
+  events = r.events;
+  written = r.written;
+  answer = subst (λ (p : MidProgram). IsAnswer p [] LIMITS r.events ran) code.same r.answer;
+  outcome = by_end r.follows.whole;
+}
+  where
+    means : Middle program [] LIMITS (events_of form) (end_of form)
+    means = code.means [] LIMITS
+
+    whole_run : (words : List ℕ) × IsIdeal program [] LIMITS words (events_of form) (end_of form)
+    whole_run = ideal_whole program code.sites [] LIMITS (events_of form) (end_of form) means
+
+    first : IsPrefix r.events (events_of form)
+    first = first_events program [] LIMITS code.sites r.events (events_of form) whole_run.0 (end_of form) r.follows.first whole_run.1
+
+    by_end : ((ran.verdict ≡ FaultVerdict) ⊎ ((end : SourceEnd) × (words : List ℕ) × IsIdeal program [] LIMITS words r.events end × (ran.verdict ≡ verdict_as end))) →
+        ((ran.verdict ≡ FaultVerdict) × write_failed × AppendsPrefix before after (events_of form)) ⊎ ((r.events ≡ events_of form) × (ran.verdict ≡ verdict_as (end_of form)))
+    by_end (inl fault) =
+        let front : take (length r.events) (events_of form) ≡ r.events = ap (take (length r.events)) first.1 ∙ take-append_seam r.events first.0 in
+        inl (fault, r.failed fault, (length r.events, r.written ∙ ap (λ es. option_map (λ told. told ++ es) before) (sym front)))
+    by_end (inr (end, words, ideal, verdict)) =
+        let one = one_end program (started program [] LIMITS) r.events (events_of form) end (end_of form) (ideal_sound program code.sites [] LIMITS words r.events end ideal) means in
+        inr (one.0, verdict ∙ ap verdict_as one.1)
+
+module _ (told : Option (List ℕ)) (before after : Option (List Event)) (read_failed write_failed : Type 0) (bytes : List ℕ) (same : IfSome told (λ t. t ≡ bytes)) (within : length bytes ≤ 1048576) where
+  pub sides_serve : (program : MidProgram) (form : FirstForm) → IsFirstForm bytes form → Implements program form → (ran : Ran) → RanBySides program LIMITS before after write_failed ran → Serves Alternate told before after read_failed write_failed (RanBoth ran)
+  sides_serve program form is code ran r = (refl, (form, record { bytes = bytes; told_bytes = same; within = within; is_form = is }, both_runs program form before after write_failed ran code r))
 
 pub refused_asks : (e : FormRefusal) (before after : Option (List (List ℕ))) (name : List ℕ) → Appends before after (name ∷ []) → AsksFor (refused e) before after name
 refused_asks Form before after name asked = asked
@@ -74,6 +125,7 @@ run_asks (Ok end) before after name asked = asked
 run_asks (Err OutOfMemory) before after name asked = (1, asked)
 run_asks (Err WriteFault) before after name asked = asked
 run_asks (Err (Alone end)) before after name asked = asked
+run_asks (Err (RanBoth ran)) before after name asked = asked
 run_asks (Err Usage) before after name asked = asked
 run_asks (Err ReadFault) before after name asked = asked
 run_asks (Err TooLong) before after name asked = asked

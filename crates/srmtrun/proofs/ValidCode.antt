@@ -1,11 +1,11 @@
 -- The middle code of a source of the first form is valid.
-use Rattle.std.proofs.Common.{◌≡◌, ◌≢◌, ℕ, zero, suc, ◌+◌, ◌-◌, ◌*◌, ◌^◌, ◌<◌, ◌≤◌, List, [], ◌∷◌, ◌++◌, length, take, get_or, Option, Some, None, Bool, true, false, ◌⊎◌, inl, inr, refl, sym, ap, subst, ◌∙◌, arith, append_assoc, length-append}
-use Rattle.std.specs.Prelude.{slice_get, ◌==◌, ◌&&◌, ◌||◌, not, nat_lt, nat_le, if◌then◌else◌}
+use Rattle.std.proofs.Common.{◌≡◌, ◌≢◌, ℕ, zero, suc, ◌+◌, ◌-◌, ◌*◌, ◌^◌, ◌<◌, ◌≤◌, List, [], ◌∷◌, ◌++◌, length, take, get_or, All, Option, Some, None, Bool, true, false, ◌⊎◌, inl, inr, refl, sym, ap, subst, ◌∙◌, arith, append_assoc, length-append}
+use Rattle.std.specs.Prelude.{slice_get, sum_by, ◌==◌, ◌&&◌, ◌||◌, not, nat_lt, nat_le, if◌then◌else◌}
 use Rattle.std.specs.List.{flat_map, AllByRecursion, list_any}
 use Rattle.std.proofs.Math.Seq.{get_or-append_seam}
 use Rattle.std.proofs.lemmas.Bool.{ne_eqb, eq-eqb, eqb-true, le-ltb, lt-leb}
 use Rattle.std.proofs.lemmas.List.Concat.{flat_map-cons}
-use Rattle.std.proofs.lemmas.List.Elements.{All-nil, All-from_recursion}
+use Rattle.std.proofs.lemmas.List.Elements.{All-cons, All-from_recursion}
 use Rattle.std.proofs.lemmas.Option.{get_or_from_slice_get, slice_get_within}
 use Rattle.srmt_base.specs.declared.ty.Ty.TheVariants.{Int, UChar}
 use Rattle.mid_code.specs.declared.program.RegisterKind.TheVariants.{Number}
@@ -17,6 +17,8 @@ use Rattle.mid_code.specs.Operands.{operands}
 use Rattle.mid_code.specs.Flow.{goes_to, enters, leaves, entry, entered, found_at, same_places, has_others, closes_wrongly, enters_wrongly, breaks_order_by, breaks_order}
 use Rattle.mid_code.specs.Rules.{breaks_function, is_beyond, has_outside, names_nothing, has_other_kind, mixes_kinds, jumps_wrongly, is_final, runs_out, misfits, misfits_params, early_rule, or_order, instruction_rule, line_rule, function_rule, rule_broken}
 use Rattle.mid_code.specs.Valid.{IsValid}
+use Rattle.mid_code.specs.Classes.{site_count, all_sites, protected_functions}
+use Rattle.mid_code.specs.Pairs.{IsOfFirstForm, HasSites}
 use Rattle.mid_code.proofs.Values.{found_one}
 use Rattle.srmtrun.specs.declared.first_form.PutConstant.{PutConstant}
 use Rattle.srmtrun.specs.declared.first_form.FirstForm.{FirstForm}
@@ -234,3 +236,33 @@ module _ (form : FirstForm) (few : length form.puts ≤ 20000) (ints : AllByRecu
 
 pub program_valid : (bytes : List ℕ) (form : FirstForm) → IsFirstForm bytes form → IsValid (program_of form)
 program_valid bytes form is = record { unbroken = none_broken form is.puts is.constants is.status }
+
+-- each statement takes a site, and so do the two ends of main
+site_count-code : (puts : List PutConstant) (rest : List MidLine) → site_count 1 (flat_map put_code puts ++ rest) ≡ length puts + site_count 1 rest
+site_count-code [] rest = omega arith
+site_count-code (p ∷ others) rest = ap (λ (x : List MidLine). site_count 1 (x ++ rest)) (flat_map-cons put_code p others) ∙ omega (arith, site_count-code others rest)
+
+-- each instruction is one of the first form
+abbrev IsPlain : MidLine → Type 0
+IsPlain l = IsOfFirstForm l.mid
+
+plain_code : (puts : List PutConstant) (rest : List MidLine) → All IsPlain rest → All IsPlain (flat_map put_code puts ++ rest)
+plain_code [] rest plain = plain
+plain_code (p ∷ others) rest plain =
+    let more = plain_code others rest plain in
+    let row = flat_map put_code others ++ rest in
+    let third = All-cons IsPlain (record { line = p.name_line; mid = Conv Int UChar 0 0 }) row tt more in
+    let second = All-cons IsPlain (record { line = p.paren_line; mid = Put 0 }) (record { line = p.name_line; mid = Conv Int UChar 0 0 } ∷ row) tt third in
+    let first = All-cons IsPlain (record { line = p.constant.line; mid = Const 0 p.constant.value }) (record { line = p.paren_line; mid = Put 0 } ∷ record { line = p.name_line; mid = Conv Int UChar 0 0 } ∷ row) tt second in
+    subst (λ (x : List MidLine). All IsPlain (x ++ rest)) (sym (flat_map-cons put_code p others)) first
+
+plain_tail : (form : FirstForm) → All IsPlain (tail_code form)
+plain_tail form = All-from_recursion IsPlain (tail_code form) (tt, (tt, (tt, (tt, tt))))
+
+plain_functions : (form : FirstForm) → All (λ f. All IsPlain f.code) (protected_functions (program_of form))
+plain_functions form = All-from_recursion (λ (f : MidFunction). All IsPlain f.code) (main_of form ∷ []) (plain_code form.puts (tail_code form) (plain_tail form), tt)
+
+pub program_sites : (bytes : List ℕ) (form : FirstForm) → IsFirstForm bytes form → HasSites (program_of form)
+program_sites bytes form is =
+    let sum : all_sites (program_of form) ≡ 0 + site_count 1 (code_of form) = refl in
+    record { valid = program_valid bytes form is; limit = omega (arith, is.puts, sum, site_count-code form.puts (tail_code form)); first_form = plain_functions form }

@@ -7,3 +7,4 @@ pub mod Words
 pub mod Answer
 pub mod Still
 pub mod Parts
+pub mod Pairing

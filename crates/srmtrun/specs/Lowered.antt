@@ -1,5 +1,5 @@
 -- The middle code of a source of the first form.
-use Rattle.std.specs.Prelude.{ℕ, List, [], ◌∷◌, ◌++◌}
+use Rattle.std.specs.Prelude.{◌≡◌, ℕ, List, [], ◌∷◌, ◌++◌}
 use Rattle.std.specs.List.{flat_map}
 use Rattle.srmt_base.specs.declared.limits.Limits.{Limits}
 use Rattle.srmt_base.specs.declared.ty.Ty.TheVariants.{Int, UChar}
@@ -8,7 +8,7 @@ use Rattle.mid_code.specs.declared.program.MidLine.{MidLine}
 use Rattle.mid_code.specs.declared.program.MidFunction.{MidFunction}
 use Rattle.mid_code.specs.declared.program.MidProgram.{MidProgram}
 use Rattle.mid_code.specs.declared.mid.Mid.TheVariants.{Const, Conv, Put, Exit}
-use Rattle.mid_code.specs.Valid.{IsValid}
+use Rattle.mid_code.specs.Pairs.{HasSites}
 use Rattle.mid_code.specs.Meaning.{Middle}
 use Rattle.srmtrun.specs.declared.first_form.PutConstant.{PutConstant}
 use Rattle.srmtrun.specs.declared.first_form.FirstForm.{FirstForm}
@@ -49,7 +49,8 @@ program_of form = record {
   functions = main_of form ∷ [];
 }
 
--- the program is valid, and means what a source of this form does
+-- the program is the form's, fit to be run by two sides, and means what a source of this form does
 pub record Implements (program : MidProgram) (form : FirstForm) : Type 0 where
-  pub valid : IsValid program
+  pub same : program ≡ program_of form
+  pub sites : HasSites program
   pub means : (input : List ℕ) (limits : Limits) → Middle program input limits (events_of form) (end_of form)

@@ -1,22 +1,28 @@
--- A run on one thread, from the words of the command to the events.
-use Rattle.std.specs.Prelude.{◌≡◌, ℕ, ◌<◌, ◌≤◌, List, [], ◌∷◌, length, Option, IfSome}
+-- A run in one thread, from the words of the command to the events.
+use Rattle.std.specs.Prelude.{◌≡◌, ℕ, ◌<◌, ◌≤◌, ◌⊎◌, List, [], ◌∷◌, length, Option, IfSome}
 use Rattle.srmt_base.specs.declared.event.Event.{Event}
 use Rattle.srmt_base.specs.declared.trap.SourceEnd.{SourceEnd}
 use Rattle.srmt_outside.specs.Told.{Appends, AppendsPrefix}
+use Rattle.pair_core.specs.declared.verdict.Ran.{Ran}
+use Rattle.pair_core.specs.declared.verdict.Verdict.TheVariants.{WriteFault as FaultVerdict}
+use Rattle.pair_core.specs.Answer.{IsAnswer, verdict_as}
 use Rattle.srmtrun.specs.declared.answer.RunAnswer.{RunAnswer}
-use Rattle.srmtrun.specs.declared.answer.RunAnswer.TheVariants.{Alone, Usage, ReadFault, TooLong, Refused, WriteFault, OutOfMemory}
+use Rattle.srmtrun.specs.declared.answer.RunAnswer.TheVariants.{Alone, Ran as RanBoth, Usage, ReadFault, TooLong, Refused, WriteFault, OutOfMemory}
 use Rattle.srmtrun.specs.declared.first_form.FirstForm.{FirstForm}
+use Rattle.srmtrun.specs.declared.still.TheConstants.{LIMITS}
 use Rattle.srmtrun.specs.declared.words.Mode.{Mode}
+use Rattle.srmtrun.specs.declared.words.Mode.TheVariants.{Single, Alternate}
 use Rattle.srmtrun.specs.FirstForm.{IsFirstForm}
+use Rattle.srmtrun.specs.Lowered.{program_of}
 use Rattle.srmtrun.specs.Meaning.{events_of, end_of}
 use Rattle.srmtrun.specs.Words.{Takes}
 
--- the words are taken, and this holds of the name of the program
-pub record Names (words : List (List ℕ)) (P : List ℕ → Type 0) : Type 0 where
+-- the words are taken, and this holds of the mode and the name of the program
+pub record Names (words : List (List ℕ)) (P : Mode → List ℕ → Type 0) : Type 0 where
   pub mode : Mode
   pub program : List ℕ
   pub taken : Takes words mode program
-  pub holds : P program
+  pub holds : P mode program
 
 -- a file that is a source of this form, with these contents where they are told
 pub record IsSource (told : Option (List ℕ)) (form : FirstForm) : Type 0 where
@@ -41,17 +47,31 @@ RunsToEnd told before after end = (form : FirstForm) × IsSource told form × (e
 abbrev pub StopsWriting : Option (List ℕ) → Option (List Event) → Option (List Event) → Type 0
 StopsWriting told before after = (form : FirstForm) × IsSource told form × AppendsPrefix before after (events_of form)
 
+-- what a run of both sides gives on a source of this form: an answer of the pair's runs over the
+-- events that were written, which are all those of the source, with its end, unless one failed
+pub record RunsBoth (form : FirstForm) (before after : Option (List Event)) (write_failed : Type 0) (ran : Ran) : Type 0 where
+  pub events : List Event
+  pub written : Appends before after events
+  pub answer : IsAnswer (program_of form) [] LIMITS events ran
+  pub outcome : ((ran.verdict ≡ FaultVerdict) × write_failed × AppendsPrefix before after (events_of form)) ⊎ ((events ≡ events_of form) × (ran.verdict ≡ verdict_as (end_of form)))
+
+-- the file is a source of some form, and both sides of its pair ran so
+abbrev pub RanOnSource : Option (List ℕ) → Option (List Event) → Option (List Event) → Type 0 → Ran → Type 0
+RanOnSource told before after write_failed ran = (form : FirstForm) × IsSource told form × RunsBoth form before after write_failed ran
+
 -- the name is asked for, once; where memory ran out, at most once
 abbrev pub AsksFor : RunAnswer → Option (List (List ℕ)) → Option (List (List ℕ)) → List ℕ → Type 0
 AsksFor OutOfMemory before after name = AppendsPrefix before after (name ∷ [])
 AsksFor _ before after name = Appends before after (name ∷ [])
 
--- What an answer says of a program that is told and of this form. Each but Alone names its cause.
-abbrev pub AnswersForm : FirstForm → Option (List Event) → Option (List Event) → Type 0 → Type 0 → RunAnswer → Type 0
-AnswersForm form before after read_failed write_failed (Alone end) = (end ≡ end_of form) × Appends before after (events_of form)
-AnswersForm form before after read_failed write_failed WriteFault = write_failed × AppendsPrefix before after (events_of form)
-AnswersForm form before after read_failed write_failed ReadFault = read_failed × (after ≡ before)
-AnswersForm form before after read_failed write_failed OutOfMemory = after ≡ before
-AnswersForm form before after read_failed write_failed Usage = ⊥
-AnswersForm form before after read_failed write_failed TooLong = ⊥
-AnswersForm form before after read_failed write_failed (Refused cause) = ⊥
+-- What an answer says of a program that is told and of this form, in this mode. Each but Alone and
+-- Ran names its cause.
+abbrev pub AnswersForm : Mode → FirstForm → Option (List Event) → Option (List Event) → Type 0 → Type 0 → RunAnswer → Type 0
+AnswersForm mode form before after read_failed write_failed (Alone end) = (mode ≡ Single) × (end ≡ end_of form) × Appends before after (events_of form)
+AnswersForm mode form before after read_failed write_failed (RanBoth ran) = (mode ≡ Alternate) × RunsBoth form before after write_failed ran
+AnswersForm mode form before after read_failed write_failed WriteFault = (mode ≡ Single) × write_failed × AppendsPrefix before after (events_of form)
+AnswersForm mode form before after read_failed write_failed ReadFault = read_failed × (after ≡ before)
+AnswersForm mode form before after read_failed write_failed OutOfMemory = after ≡ before
+AnswersForm mode form before after read_failed write_failed Usage = ⊥
+AnswersForm mode form before after read_failed write_failed TooLong = ⊥
+AnswersForm mode form before after read_failed write_failed (Refused cause) = ⊥

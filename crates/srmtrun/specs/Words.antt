@@ -3,7 +3,7 @@ use Rattle.std.specs.Prelude.{◌≡◌, ℕ, Bool, not, ◌&&◌, ◌⊎◌, na
 use Rattle.std.specs.List.{starts_with, ends_with}
 use Rattle.std.specs.declared.alloc.Global.{Global}
 use Rattle.srmtrun.specs.declared.words.Mode.{Mode}
-use Rattle.srmtrun.specs.declared.words.Mode.TheVariants.{Single}
+use Rattle.srmtrun.specs.declared.words.Mode.TheVariants.{Single, Alternate}
 
 -- the bytes of each word
 abbrev pub texts : List (String Global) → List (List ℕ)
@@ -12,6 +12,7 @@ texts words = map string_bytes words
 -- the flag that asks for a mode
 abbrev pub flag_of : Mode → List ℕ
 flag_of Single = codes "--single"
+flag_of Alternate = codes "--alternate"
 
 -- a word names a source: it begins as no flag does, and ends as no object file does
 abbrev pub names_source : List ℕ → Bool

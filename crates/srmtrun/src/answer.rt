@@ -1,8 +1,9 @@
 ghost use Rattle.std.specs.Prelude.{◌≡◌};
 ghost use Rattle.srmtrun.specs.declared.answer.RunAnswer.TheVariants.{OutOfMemory, WriteFault};
-ghost use Rattle.srmtrun.specs.Answer.{status_of, unread, refused};
+ghost use Rattle.srmtrun.specs.Answer.{verdict_status, status_of, unread, refused};
 
 use crate::first_form::FormRefusal;
+use pair_core::{Ran, Verdict};
 use srmt_base::SourceEnd;
 use srmt_outside::{Failed, FileFault};
 use std::alloc::AllocError;
@@ -22,6 +23,8 @@ pub struct Finished {
 pub enum RunAnswer {
     /// The program ran on one thread, and ended so.
     Alone(SourceEnd),
+    /// Both sides of the program ran, with this answer.
+    Ran(Ran),
     /// The words are not taken.
     Usage,
     /// A file was not read.
@@ -45,10 +48,11 @@ pub enum CompileRefusal {
 
 impl RunAnswer {
     /// The status with which the process is to end: a program's own where it ended with one.
-    pub fn status(self) -> u8
-        ensures { result ≡ status_of self }
+    pub fn status(&self) -> u8
+        ensures { result ≡ status_of self.now }
     {
-        match self {
+        match *self {
+            RunAnswer::Ran(ref ran) => status_of_verdict(&ran.verdict),
             RunAnswer::Alone(SourceEnd::Exit(status)) => status,
             RunAnswer::Alone(SourceEnd::Trap(trap, _)) if trap.is_budget() => 122,
             RunAnswer::Alone(SourceEnd::Trap(..)) => 121,
@@ -57,6 +61,19 @@ impl RunAnswer {
             RunAnswer::Usage => 126,
             RunAnswer::Refused(_) => 127,
         }
+    }
+}
+
+// The status of a verdict.
+fn status_of_verdict(verdict: &Verdict) -> u8
+    ensures { result ≡ verdict_status verdict.now }
+{
+    match *verdict {
+        Verdict::Exit(status) => status,
+        Verdict::Undefined(..) => 121,
+        Verdict::Exhausted(..) => 122,
+        Verdict::Reported(_) => 123,
+        Verdict::WriteFault => 124,
     }
 }
 

@@ -1,14 +1,16 @@
 //! The runner: it takes the source of a program and runs it.
 //!
 //! Today it runs sources of the first form alone, in which `main` writes constant bytes and returns
-//! a constant, by the machine of one thread. The top call promises, of any files and any outlet,
-//! that a source gives exactly its events and its end, or an answer with its cause. It stands on
-//! `mid_code` and `mid_run`, on the traits of `srmt_outside`, and on the values of `srmt_base`.
+//! a constant, by the machine of one thread or by both sides of its pair in turn. The top call
+//! promises, of any files and any outlet, that a source gives exactly its events and its end, or an
+//! answer with its cause. It stands on `mid_run` and `pair_core`, on the traits of `srmt_outside`,
+//! and on the values of `srmt_base`.
 #![tactic(auto)]
 
 mod answer;
 mod first_form;
 mod lowering;
+mod pairing;
 mod reading;
 mod rest;
 mod still;

@@ -1,4 +1,4 @@
-ghost use Rattle.std.specs.Prelude.{◌≡◌, ℕ, ◌+◌, ◌^◌, ◌<◌, ◌≤◌, ◌↔◌, List, [], Some, length, IsTrue, IfOk, IfErr, IfSome, IsErrOf};
+ghost use Rattle.std.specs.Prelude.{◌≡◌, ℕ, ◌+◌, ◌^◌, ◌<◌, ◌≤◌, ◌↔◌, List, [], Some, length, IsTrue, IfOk, IfErr, IfSome, IsErrOf, OnErr};
 ghost use Rattle.srmt_base.specs.declared.event.Event.{Event};
 ghost use Rattle.srmt_base.specs.declared.trap.SourceEnd.{SourceEnd};
 ghost use Rattle.srmt_outside.specs.Count.{Rose};
@@ -6,25 +6,29 @@ ghost use Rattle.srmt_outside.specs.Files.{Asks};
 ghost use Rattle.srmt_outside.specs.Told.{Appends};
 ghost use Rattle.mid_code.specs.Valid.{IsValid};
 ghost use Rattle.mid_code.specs.Meaning.{Middle};
+ghost use Rattle.mid_code.specs.Pairs.{HasSites};
+ghost use Rattle.pair_core.specs.declared.verdict.Ran.{Ran};
 ghost use Rattle.srmtrun.specs.declared.first_form.FirstForm.{FirstForm};
 ghost use Rattle.srmtrun.specs.declared.words.Mode.{Mode};
-ghost use Rattle.srmtrun.specs.Answer.{status_of, answer_from, NeverRan};
+ghost use Rattle.srmtrun.specs.Answer.{status_of, answer_from, both_from, NeverRan};
 ghost use Rattle.srmtrun.specs.FirstForm.{IsFirstForm};
 ghost use Rattle.srmtrun.specs.Lowered.{Implements};
-ghost use Rattle.srmtrun.specs.Still.{Names, IsNoSource, IsTooLong, RunsToEnd, StopsWriting, AsksFor, AnswersForm};
-ghost use Rattle.srmtrun.specs.Parts.{Serves, StopsRun};
+ghost use Rattle.srmtrun.specs.Still.{Names, IsNoSource, IsTooLong, RunsToEnd, RanOnSource, StopsWriting, AsksFor, AnswersForm};
+ghost use Rattle.srmtrun.specs.Parts.{Serves, StopsRun, RanBySides};
 ghost use Rattle.srmtrun.specs.Words.{texts, Takes};
 
 use crate::answer::{CompileRefusal, Finished, RunAnswer};
 use crate::first_form::FormRefusal;
 use crate::lowering::lower_first_form;
+use crate::pairing::pair_of;
 use crate::reading::read_first_form;
 use crate::words::{Mode, read_words};
 use mid_code::MidProgram;
 use mid_run::MidRun;
+use pair_core::{Duo, Ran, alternate};
 use srmt_base::{Limits, SourceEnd};
 use srmt_outside::{FileFault, Files, Outlet, Sink};
-use std::alloc::Global;
+use std::alloc::{AllocError, Global};
 
 /// The largest source, in bytes.
 const SOURCE_LIMIT: u64 = 1_048_576;
@@ -44,14 +48,14 @@ pub fn srmtrun_still<F: Files, O: Outlet + Send, N: Sink>(
     outlet: &mut O,
     notes: &mut N,
 ) -> Finished
-    // A program whose file is told and is of the first form runs to its end, with all its events.
-    // Each other answer has its cause.
+    // A program whose file is told and is of the first form runs to its end, with all its events,
+    // on one thread or by both sides in turn. Each other answer has its cause.
     ensures told { (mode : Mode) (program bytes : List ℕ) (form : FirstForm)
         → Takes (texts words.now) mode program
         → F.contents files.old program ≡ Some bytes
         → length bytes ≤ 1048576
         → IsFirstForm bytes form
-        → AnswersForm form (O.events outlet.old) (O.events outlet.new)
+        → AnswersForm mode form (O.events outlet.old) (O.events outlet.new)
         (Rose (F.faults files.old) (F.faults files.new))
         (Rose (O.faults outlet.old) (O.faults outlet.new)) result.answer }
 
@@ -59,24 +63,30 @@ pub fn srmtrun_still<F: Files, O: Outlet + Send, N: Sink>(
     ensures usage { (result.answer ≡ RunAnswer.Usage)
         ↔ ((mode : Mode) (program : List ℕ) → Takes (texts words.now) mode program → ⊥) }
     ensures alone { (end : SourceEnd) → result.answer ≡ RunAnswer.Alone end
-        → Names (texts words.now) (λ program. RunsToEnd (F.contents files.old program)
+        → Names (texts words.now) (λ mode program. (mode ≡ Mode.Single)
+        × RunsToEnd (F.contents files.old program)
         (O.events outlet.old) (O.events outlet.new) end) }
+    ensures ran { (ran : Ran) → result.answer ≡ RunAnswer.Ran ran
+        → Names (texts words.now) (λ mode program. (mode ≡ Mode.Alternate)
+        × RanOnSource (F.contents files.old program)
+        (O.events outlet.old) (O.events outlet.new)
+        (Rose (O.faults outlet.old) (O.faults outlet.new)) ran) }
     ensures write_fault { result.answer ≡ RunAnswer.WriteFault → Names (texts words.now)
-        (λ program. StopsWriting (F.contents files.old program)
+        (λ mode program. (mode ≡ Mode.Single) × StopsWriting (F.contents files.old program)
         (O.events outlet.old) (O.events outlet.new)) }
     ensures write_failed { result.answer ≡ RunAnswer.WriteFault
         → Rose (O.faults outlet.old) (O.faults outlet.new) }
     ensures read_failed { result.answer ≡ RunAnswer.ReadFault
         → Rose (F.faults files.old) (F.faults files.new) }
     ensures too_long { result.answer ≡ RunAnswer.TooLong → Names (texts words.now)
-        (λ program. IsTooLong (F.contents files.old program)) }
+        (λ mode program. IsTooLong (F.contents files.old program)) }
     ensures form { result.answer ≡ RunAnswer.Refused CompileRefusal.Form → Names (texts words.now)
-        (λ program. IsNoSource (F.contents files.old program)) }
+        (λ mode program. IsNoSource (F.contents files.old program)) }
     ensures no_event { NeverRan result.answer → O.events outlet.new ≡ O.events outlet.old }
 
     // What it asks of the files, and what it leaves.
     ensures asks { (result.answer ≡ RunAnswer.Usage → ⊥) → Names (texts words.now)
-        (AsksFor result.answer (F.asked files.old) (F.asked files.new)) }
+        (λ mode. AsksFor result.answer (F.asked files.old) (F.asked files.new)) }
     ensures asks_nothing { result.answer ≡ RunAnswer.Usage → F.asked files.new ≡ F.asked files.old }
     ensures contents { F.contents files.new ≡ F.contents files.old }
     ensures read_faults { F.faults files.old ≤ F.faults files.new }
@@ -107,7 +117,7 @@ fn answer<F: Files, O: Outlet>(
     ensures unread { result ≡ RunAnswer.Usage → F.asked files.new ≡ F.asked files.old }
     ensures unwritten { result ≡ RunAnswer.Usage → O.events outlet.new ≡ O.events outlet.old }
     ensures serves { (result ≡ RunAnswer.Usage → ⊥) → Names (texts words.now)
-        (λ program. Serves (F.contents files.old program)
+        (λ mode program. Serves mode (F.contents files.old program)
         (O.events outlet.old) (O.events outlet.new)
         (Rose (F.faults files.old) (F.faults files.new))
         (Rose (O.faults outlet.old) (O.faults outlet.new)) result
@@ -119,12 +129,15 @@ fn answer<F: Files, O: Outlet>(
     let Some((mode, program)) = read_words(words) else {
         return RunAnswer::Usage;
     };
-    let end = match mode {
-        Mode::Single => single(alloc, program, files, outlet),
-    };
-    match end {
-        Ok(end) => RunAnswer::Alone(end),
-        Err(answer) => answer,
+    match mode {
+        Mode::Single => match single(alloc, program, files, outlet) {
+            Ok(end) => RunAnswer::Alone(end),
+            Err(answer) => answer,
+        },
+        Mode::Alternate => match both(alloc, program, files, outlet) {
+            Ok(ran) => RunAnswer::Ran(ran),
+            Err(answer) => answer,
+        },
     }
 }
 
@@ -135,7 +148,7 @@ fn single<F: Files, O: Outlet>(
     files: &mut F,
     outlet: &mut O,
 ) -> Result<SourceEnd, RunAnswer>
-    ensures serves { Serves (F.contents files.old name.now)
+    ensures serves { Serves Mode.Single (F.contents files.old name.now)
         (O.events outlet.old) (O.events outlet.new)
         (Rose (F.faults files.old) (F.faults files.new))
         (Rose (O.faults outlet.old) (O.faults outlet.new)) (answer_from result) }
@@ -147,6 +160,27 @@ fn single<F: Files, O: Outlet>(
     let source = load(alloc, name, files)?;
     let program = compile(alloc, &source)?;
     run(alloc, &program, outlet)
+}
+
+/// Runs both sides of a source in turn, to their ends, or gives the answer that stopped it.
+fn both<F: Files, O: Outlet>(
+    alloc: Global,
+    name: &str,
+    files: &mut F,
+    outlet: &mut O,
+) -> Result<Ran, RunAnswer>
+    ensures serves { Serves Mode.Alternate (F.contents files.old name.now)
+        (O.events outlet.old) (O.events outlet.new)
+        (Rose (F.faults files.old) (F.faults files.new))
+        (Rose (O.faults outlet.old) (O.faults outlet.new)) (both_from result) }
+    ensures asks { AsksFor (both_from result) (F.asked files.old) (F.asked files.new) name.now }
+    ensures contents { F.contents files.new ≡ F.contents files.old }
+    ensures read_faults { F.faults files.old ≤ F.faults files.new }
+    ensures write_faults { O.faults outlet.old ≤ O.faults outlet.new }
+{
+    let source = load(alloc, name, files)?;
+    let program = compile(alloc, &source)?;
+    Ok(run_sides(alloc, program, outlet)?)
 }
 
 /// The bytes of a source.
@@ -177,6 +211,24 @@ fn compile(alloc: Global, source: &[u8]) -> Result<MidProgram, FormRefusal>
 {
     let form = read_first_form(alloc, source)?;
     Ok(lower_first_form(alloc, &form)?)
+}
+
+/// Runs both sides of a program in turn, to their ends.
+fn run_sides<O: Outlet>(
+    alloc: Global,
+    program: MidProgram,
+    outlet: &mut O,
+) -> Result<Ran, AllocError>
+    requires { HasSites program }
+    ensures ok { IfOk result (RanBySides program LIMITS
+        (O.events outlet.old) (O.events outlet.new)
+        (Rose (O.faults outlet.old) (O.faults outlet.new))) }
+    ensures err { OnErr result (O.events outlet.new ≡ O.events outlet.old) }
+    ensures never_falls { O.faults outlet.old ≤ O.faults outlet.new }
+{
+    let pair = pair_of(alloc, program)?;
+    let mut duo = Duo::start(alloc, &pair, Vec::new(alloc), LIMITS)?;
+    Ok(alternate(&mut duo, &pair, outlet))
 }
 
 /// Runs a program on one thread, to its end or to the answer that stopped it.

@@ -2,10 +2,14 @@ use crate::answer::{CompileRefusal, Finished, RunAnswer};
 use crate::first_form::{Constant, FormRefusal};
 use crate::reading::read_first_form;
 use crate::still::srmtrun_still;
+use pair_core::{Ran, Verdict};
 use srmt_base::{Event, SourceEnd};
 use srmt_outside::{MemFiles, MemOutlet, MemSink, SureFiles};
 use std::alloc::{AllocError, Global};
 use std::test::Fail;
+
+mod pairs;
+mod schedules;
 
 const FORM: RunAnswer = RunAnswer::Refused(CompileRefusal::Form);
 
@@ -18,7 +22,7 @@ fn words(alloc: Global, texts: &[&str]) -> Result<Vec<String>, AllocError> {
     Ok(words)
 }
 
-// Runs a source from files that never fail.
+// Runs a source on one thread, from files that never fail.
 fn run(alloc: Global, source: &[u8], outlet: &mut MemOutlet) -> Result<Finished, AllocError> {
     let mut files = SureFiles::new(alloc);
     files.give(alloc, "a.c", source)?;
@@ -86,8 +90,12 @@ fn other_sources_are_refused(rt: HostRuntime) -> Result<(), Fail> {
     for source in rows {
         let mut outlet = MemOutlet::with_room(rt.alloc(), 3)?;
         let finished = run(rt.alloc(), source, &mut outlet)?;
-        assert_eq!(rt; finished.answer, FORM, "{source:?}");
-        assert_eq!(rt; finished.status, 127);
+        let want = Finished {
+            status: 127,
+            answer: FORM,
+            noted: true,
+        };
+        assert_eq!(rt; finished, want, "{source:?}");
         assert!(rt; outlet.events().is_empty());
     }
     Ok(())
@@ -123,9 +131,12 @@ fn limits_are_exact(rt: HostRuntime) -> Result<(), Fail> {
 #[test]
 fn words_are_taken(rt: HostRuntime) -> Result<(), Fail> {
     let alloc = rt.alloc();
-    let rows: [(&[&str], u8); 8] = [
+    let rows: [(&[&str], u8); 11] = [
         (&["a.c", "--single"], 7),
         (&["--single", "a.c"], 7),
+        (&["a.c", "--alternate"], 7),
+        (&["--alternate", "a.c"], 7),
+        (&["--alternate", "--single"], 126),
         (&[], 126),
         (&["a.c"], 126),
         (&["a.c", "--double"], 126),
@@ -168,6 +179,54 @@ fn faults_are_answered(rt: HostRuntime) -> Result<(), Fail> {
         let finished = srmtrun_still(alloc, &words, &mut files, &mut outlet, &mut notes);
         assert_eq!(rt; finished.answer, want, "{name} {read} {write}");
         assert_eq!(rt; outlet.events().len(), count, "{name} {read} {write}");
+    }
+    Ok(())
+}
+
+// The answer of a run of both sides: the verdict, the steps of the leading and of the trailing side,
+// the words and the acknowledgements.
+fn ran(verdict: Verdict, counts: [u64; 4]) -> RunAnswer {
+    let [lead_steps, trail_steps, words, acks] = counts;
+    RunAnswer::Ran(Ran {
+        verdict,
+        lead_steps,
+        trail_steps,
+        words,
+        acks,
+        applied: false,
+    })
+}
+
+// The counts are those of the two versions, taken by hand.
+#[test]
+fn both_sides_run(rt: HostRuntime) -> Result<(), Fail> {
+    let alloc = rt.alloc();
+    let none = b"int main(void){return 0;}";
+    let one = b"int main(void) {\nputchar(65);\nreturn 0;\n}";
+    let two = b"int main(void) {\nputchar(65);\nputchar(66);\nreturn 0;\n}";
+    // The source, the call of the outlet that fails, the status, the answer, and how many events
+    // there are.
+    let rows: [(&[u8], u64, u8, RunAnswer, usize); 4] = [
+        (none, 0, 0, ran(Verdict::Exit(0), [4, 4, 1, 1]), 1),
+        (one, 0, 0, ran(Verdict::Exit(0), [9, 8, 2, 2]), 2),
+        (two, 0, 0, ran(Verdict::Exit(0), [14, 12, 3, 3]), 3),
+        (two, 2, 124, ran(Verdict::WriteFault, [9, 10, 2, 2]), 1),
+    ];
+    for (source, write, status, answer, count) in rows {
+        let mut files = MemFiles::new(alloc);
+        files.give(alloc, "a.c", source)?;
+        let mut outlet = MemOutlet::with_room(alloc, 3)?;
+        outlet.fails.push(write)?;
+        let mut notes = MemSink::with_room(alloc, 0)?;
+        let words = words(alloc, &["a.c", "--alternate"])?;
+        let finished = srmtrun_still(alloc, &words, &mut files, &mut outlet, &mut notes);
+        let want = Finished {
+            status,
+            answer,
+            noted: true,
+        };
+        assert_eq!(rt; finished, want, "{write}");
+        assert_eq!(rt; outlet.events().len(), count, "{write}");
     }
     Ok(())
 }

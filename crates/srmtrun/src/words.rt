@@ -7,6 +7,8 @@ ghost use Rattle.srmtrun.specs.Words.{texts, flag_of, names_source, Takes};
 pub enum Mode {
     /// By the machine of one thread: `--single`.
     Single,
+    /// By both sides in turn: `--alternate`.
+    Alternate,
 }
 
 /// The mode and the name of the program, where the words are taken.
@@ -34,6 +36,7 @@ fn mode_of(word: &str) -> Option<Mode>
 {
     match word {
         "--single" => Some(Mode::Single),
+        "--alternate" => Some(Mode::Alternate),
         _ => None,
     }
 }

@@ -4,3 +4,8 @@ use Rattle.srmtrun.proofs.still.srmtrun_still.Goals as goal
 
 pub returns-clause-told : goal.returns-clause-told
 returns-clause-told g c = told_answers _ _ _ _ (λ answer program. AsksFor answer (g.F.Files.asked c.args.files.now) (g.F.Files.asked c.answer-answer.new.files) program) _ _ _ c.answer-answer.ensures.usage.0 c.answer-answer.ensures.serves
+
+pub returns-clause-asks : goal.returns-clause-asks
+returns-clause-asks g c = λ not_usage.
+    let n = c.answer-answer.ensures.serves not_usage in
+    record { mode = n.mode; program = n.program; taken = n.taken; holds = n.holds.1 }

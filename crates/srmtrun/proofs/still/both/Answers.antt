@@ -1,0 +1,30 @@
+use Rattle.std.proofs.Common.{◌≡◌, ℕ, List, Err, sym, ap, subst}
+use Rattle.std.proofs.lemmas.Result.{err_from_is_err_and}
+use Rattle.srmtrun.proofs.Serving.{refused_serves, refused_asks, sides_serve}
+use Rattle.srmtrun.specs.FirstForm.{IsFirstForm}
+use Rattle.srmtrun.specs.declared.first_form.FirstForm.{FirstForm}
+use Rattle.srmtrun.specs.declared.first_form.FormRefusal.TheVariants.{Form}
+use Rattle.srmtrun.specs.declared.words.Mode.TheVariants.{Alternate}
+use Rattle.srmtrun.proofs.still.both.Goals as goal
+
+pub returns-in_err-program-clause-serves : goal.returns-in_err-program-clause-serves
+returns-in_err-program-clause-serves g c =
+    let p = err_from_is_err_and c.from_residual-in_err-program.result c.from_residual-in_err-program.ensures.1 in
+    let none : c.in_err-program.field-0.0 ≡ Form → (form : FirstForm) → IsFirstForm c.in_ok-source.source.items form → ⊥ =
+    λ e form is. c.in_err-program.ensures.none (ap Err e) form (subst (λ (b : List ℕ). IsFirstForm b form) (sym c.deref.ensures.value) is) in
+    rw (p.1, p.2) (refused_serves (g.F.Files.contents c.args.files.now c.args.name.now) (g.O.Outlet.events c.args.outlet.now) (g.O.Outlet.events c.args.outlet.now) _ _ Alternate c.in_ok-source.source.items c.in_ok-source.ensures.told c.in_ok-source.ensures.within c.in_err-program.field-0.0 none)
+
+pub returns-in_err-program-clause-asks : goal.returns-in_err-program-clause-asks
+returns-in_err-program-clause-asks g c =
+    let p = err_from_is_err_and c.from_residual-in_err-program.result c.from_residual-in_err-program.ensures.1 in
+    rw (p.1, p.2) (refused_asks _ _ _ _ c.in_ok-source.ensures.asks)
+
+pub returns-in_err-run_sides-clause-asks : goal.returns-in_err-run_sides-clause-asks
+returns-in_err-run_sides-clause-asks g c =
+    let p = err_from_is_err_and c.from_residual-in_err-run_sides.result c.from_residual-in_err-run_sides.ensures.1 in
+    rw (p.1, p.2) (1, c.in_ok-source.ensures.asks)
+
+pub returns-clause-serves : goal.returns-clause-serves
+returns-clause-serves g c =
+    let form = c.in_ok-program.ensures.ok in
+    sides_serve _ _ _ (Unit {0}) _ c.in_ok-source.source.items c.in_ok-source.ensures.told c.in_ok-source.ensures.within c.in_ok-program.program form.0 (subst (λ (b : List ℕ). IsFirstForm b form.0) c.deref.ensures.value form.1) form.2 c.in_ok-run_sides.field-0 c.in_ok-run_sides.ensures.ok

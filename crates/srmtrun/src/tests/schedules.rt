@@ -1,0 +1,146 @@
+ghost use Rattle.std.specs.Prelude.{◌<◌, length};
+
+use super::pairs::{LIMITS, pair_from};
+use mid_code::Pair;
+use pair_core::{Duo, Ran, Verdict, alternate};
+use srmt_base::{Event, Side};
+use srmt_outside::MemOutlet;
+use std::alloc::{AllocError, Global};
+use std::test::Fail;
+
+// Whose turn it is.
+#[derive(Clone, Copy, Debug)]
+enum Order {
+    // So many tries of one side, then so many of the other, and again.
+    Bursts(Side, u8, u8),
+    // By a sequence of numbers that looks random and is always the same.
+    Mixed(u64),
+}
+
+const ORDERS: [Order; 7] = [
+    Order::Bursts(Side::Lead, 40, 40),
+    Order::Bursts(Side::Trail, 40, 40),
+    Order::Bursts(Side::Lead, 1, 1),
+    Order::Bursts(Side::Trail, 1, 3),
+    Order::Mixed(1),
+    Order::Mixed(20_000_003),
+    Order::Mixed(987_654_321),
+];
+
+fn other(side: Side) -> Side {
+    match side {
+        Side::Lead => Side::Trail,
+        Side::Trail => Side::Lead,
+    }
+}
+
+fn side_of(order: Order, number: u32) -> Side {
+    match order {
+        Order::Bursts(first, many, few) => {
+            let round = (u32::from(many) + u32::from(few)).max(1);
+            if number % round < u32::from(many) {
+                first
+            } else {
+                other(first)
+            }
+        }
+        Order::Mixed(seed) => {
+            let mixed = seed
+                .wrapping_add(u64::from(number))
+                .wrapping_mul(0x9E37_79B9_7F4A_7C15);
+            if mixed / 4_294_967_296 % 2 == 0 {
+                Side::Lead
+            } else {
+                Side::Trail
+            }
+        }
+    }
+}
+
+// The counts of an answer, and its status if it is an exit, or 124 if an event failed.
+fn told(ran: &Ran) -> [u64; 5] {
+    let status = match &ran.verdict {
+        Verdict::Exit(status) => u64::from(*status),
+        Verdict::WriteFault => 124,
+        _ => 1_000,
+    };
+    [ran.lead_steps, ran.trail_steps, ran.words, ran.acks, status]
+}
+
+// Makes tries in this order until both sides have ended.
+fn run_in(
+    alloc: Global,
+    pair: &Pair,
+    order: Order,
+    outlet: &mut MemOutlet,
+) -> Result<Option<[u64; 5]>, AllocError> {
+    let mut duo = Duo::start(alloc, pair, Vec::new(alloc), LIMITS)?;
+    for number in 0..500 {
+        if let Some(ran) = duo.ran() {
+            return Ok(Some(told(&ran)));
+        }
+        let _stepped = duo.act(pair, outlet, side_of(order, number));
+    }
+    Ok(None)
+}
+
+// Whether this order gives the same answer and the same events.
+fn gives_the_same(
+    alloc: Global,
+    pair: &Pair,
+    order: Order,
+    expected: [u64; 5],
+    events: &[Event],
+) -> Result<bool, AllocError> {
+    let mut outlet = MemOutlet::with_room(alloc, 3)?;
+    let numbers = run_in(alloc, pair, order, &mut outlet)?;
+    Ok(numbers == Some(expected) && outlet.events() == events)
+}
+
+// The answer of `alternate`, with an outlet whose call of this number fails.
+fn in_turn(alloc: Global, source: &[u8], fails: u64) -> Result<[u64; 5], Fail>
+    requires { length source.now < 1000 }
+{
+    let pair = pair_from(alloc, source)?;
+    let mut outlet = MemOutlet::with_room(alloc, 3)?;
+    outlet.fails.push(fails)?;
+    let mut duo = Duo::start(alloc, &pair, Vec::new(alloc), LIMITS)?;
+    let ran = alternate(&mut duo, &pair, &mut outlet);
+    Ok(told(&ran))
+}
+
+// The counts are those of the two versions, taken by hand.
+#[test]
+fn counts_are_those_of_the_versions(rt: HostRuntime) -> Result<(), Fail> {
+    let one = in_turn(rt.alloc(), b"int main(void){return 0;}", 0)?;
+    assert_eq!(rt; one, [4, 4, 1, 1, 0]);
+    let byte = in_turn(rt.alloc(), b"int main(void){putchar(65);return 0;}", 0)?;
+    assert_eq!(rt; byte, [9, 8, 2, 2, 0]);
+    let two = b"int main(void){putchar(65);putchar(66);return 0;}";
+    let whole = in_turn(rt.alloc(), two, 0)?;
+    assert_eq!(rt; whole, [14, 12, 3, 3, 0]);
+    let failed = in_turn(rt.alloc(), two, 2)?;
+    assert_eq!(rt; failed, [9, 10, 2, 2, 124]);
+    Ok(())
+}
+
+#[test]
+fn every_order_gives_the_same(rt: HostRuntime) -> Result<(), Fail> {
+    let sources: [&[u8]; 3] = [
+        b"int main(void){return 7;}",
+        b"int main(void) { putchar(65); return 0; }",
+        b"int main(void){putchar(66);putchar(321);return 300;}",
+    ];
+    for source in sources {
+        assert!(rt; source.len() < 1000);
+        let pair = pair_from(rt.alloc(), source)?;
+        let mut outlet = MemOutlet::with_room(rt.alloc(), 3)?;
+        let mut duo = Duo::start(rt.alloc(), &pair, Vec::new(rt.alloc()), LIMITS)?;
+        let ran = alternate(&mut duo, &pair, &mut outlet);
+        for order in ORDERS {
+            let same = gives_the_same(rt.alloc(), &pair, order, told(&ran), outlet.events())?;
+            assert!(rt; same, "{order:?}");
+        }
+    }
+    Ok(())
+}
