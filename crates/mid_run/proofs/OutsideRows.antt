@@ -1,5 +1,5 @@
 -- Rows after what the outside does to the machine.
-use Rattle.std.proofs.Common.{ℕ, ◌+◌, ◌-◌, ◌^◌, ◌<◌, ◌≤◌, ◌≡◌, List, [], ◌∷◌, ◌++◌, length, map, take, drop, replicate, set, refl, ap, subst, ◌∙◌, arith}
+use Rattle.std.proofs.Common.{ℕ, ◌+◌, ◌-◌, ◌^◌, ◌<◌, ◌≤◌, ◌≡◌, List, [], ◌∷◌, ◌++◌, length, map, take, drop, replicate, set, refl, ap, ◌∙◌, arith}
 use Rattle.std.specs.Prelude.{reverse, All}
 use Rattle.std.proofs.lemmas.List.{length-append, length-replicate, take_all, take-append-le, take-set-le, take-take, reverse-append, append_assoc, drop_at}
 use Rattle.std.proofs.lemmas.List.Elements.{All-append, All-replicate}

@@ -1,5 +1,5 @@
 -- One step of the machine is one step of the meaning.
-use Rattle.std.proofs.Common.{◌≡◌, ℕ, suc, ◌+◌, ◌<◌, ◌≤◌, ◌^◌, List, [], ◌∷◌, length, Option, Some, None, refl, sym, ap, ◌∙◌, subst, arith}
+use Rattle.std.proofs.Common.{◌≡◌, ℕ, suc, ◌≤◌, List, [], ◌∷◌, length, Option, Some, None, refl, sym, ap, ◌∙◌, subst, arith}
 use Rattle.std.specs.Prelude.{All, sum_by}
 use Rattle.std.proofs.lemmas.List.Sums.{sum_by-cons}
 use Rattle.srmt_base.specs.declared.event.Event.{Event}
@@ -21,10 +21,9 @@ use Rattle.mid_code.proofs.Acting.{act_fits}
 use Rattle.mid_code.proofs.Naming.{whole, function_kept}
 use Rattle.mid_code.proofs.Fitting.{next_found, does-at, fits_on}
 use Rattle.mid_run.specs.declared.run.MidRun.TheInside.{Inside}
-use Rattle.mid_run.specs.declared.act.Did.{Did}
 use Rattle.mid_run.specs.declared.act.Did.TheVariants.{Went, Trapped, Wants}
 use Rattle.mid_run.specs.Kept.{Kept}
-use Rattle.mid_run.specs.Acts.{CanAct, CanReach, HasDone, IsReady}
+use Rattle.mid_run.specs.Acts.{CanAct, HasDone, IsReady}
 use Rattle.mid_run.specs.Reaching.{state_of, LeadsTo, HasRoom}
 use Rattle.mid_run.specs.Progress.{Progress, At, Over, FitsIn, Steps, end_of}
 use Rattle.mid_run.specs.View.{progress_of, progress_by, state_in}

@@ -1,5 +1,5 @@
 -- How an instruction leaves the binary functions, as the code tells it.
-use Rattle.std.specs.Prelude.{ℕ, ◌<◌, List, length, Option}
+use Rattle.std.specs.Prelude.{ℕ, List, Option}
 use Rattle.srmt_base.specs.Args.{args_list}
 use Rattle.srmt_base.specs.Objects.{Objects}
 use Rattle.mid_code.specs.declared.program.MidProgram.{MidProgram}

@@ -1,4 +1,4 @@
-use Rattle.std.proofs.Common.{◌≡◌, ◌≤◌, length, ap, sym, subst}
+use Rattle.std.proofs.Common.{◌≤◌, length, sym, subst}
 use Rattle.mid_run.specs.Kept.{Kept}
 use Rattle.mid_run.specs.Binary.{BinaryState, Runs, FitsBinary}
 use Rattle.mid_run.specs.BinaryView.{state_of_run}

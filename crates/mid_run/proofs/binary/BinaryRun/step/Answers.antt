@@ -1,4 +1,4 @@
-use Rattle.std.proofs.Common.{◌≡◌, ℕ, ◌<◌, List, drop, Some, ap, sym, subst, ◌∙◌, Fits, w8, slice_index_or, arith}
+use Rattle.std.proofs.Common.{◌≡◌, ℕ, ◌<◌, List, drop, Some, ap, subst, ◌∙◌, Fits, w8, slice_index_or, arith}
 use Rattle.std.specs.Prelude.{All}
 use Rattle.std.proofs.lemmas.List.{get_or_default}
 use Rattle.std.proofs.lemmas.List.Elements.{All-drop}
@@ -6,7 +6,7 @@ use Rattle.srmt_base.specs.Args.{args_list}
 use Rattle.srmt_base.specs.Objects.{Objects}
 use Rattle.mid_code.specs.declared.program.MidProgram.{MidProgram}
 use Rattle.mid_code.specs.Program.{function_at}
-use Rattle.mid_run.specs.Binary.{BinaryState, After, Enters, begins, step_by, binary_step, said, FitsBinary}
+use Rattle.mid_run.specs.Binary.{BinaryState, After, Enters, begins, step_by, binary_step}
 use Rattle.mid_run.specs.BinaryView.{state_of_run, next_of}
 use Rattle.mid_run.proofs.BinarySteps.{fits_after, small_said}
 use Rattle.mid_run.proofs.binary.BinaryRun.step.Goals as goal

@@ -1,7 +1,6 @@
-use Rattle.std.proofs.Common.{drop, sym, subst}
-use Rattle.mid_run.specs.Progress.{FitsIn, Steps}
+use Rattle.std.proofs.Common.{drop, sym}
 use Rattle.mid_run.specs.Reaching.{state_of}
-use Rattle.mid_run.specs.View.{progress_by, state_in}
+use Rattle.mid_run.specs.View.{state_in}
 use Rattle.mid_run.proofs.Stepping.{stands, ready_at, has_room, led}
 use Rattle.mid_run.proofs.run.MidRun.step.Goals as goal
 
