@@ -6,7 +6,7 @@ use std::alloc::{AllocError, AllocFailed};
 
 /// Why a line of the grammar finds nothing at the front of some tokens.
 #[derive(Clone, Copy, Debug, PartialEq, Eq)]
-pub enum Fault {
+pub(crate) enum Fault {
     /// The first token that does not fit, by the number of tokens from it on; 0 where the tokens end early.
     Refused(usize),
     /// There is no memory left.
@@ -30,4 +30,4 @@ impl From<AllocError> for Fault {
 }
 
 /// What a line of the grammar finds, and the tokens behind it.
-pub type Read<'t, T> = Result<(T, &'t [Token]), Fault>;
+pub(crate) type Read<'t, T> = Result<(T, &'t [Token]), Fault>;

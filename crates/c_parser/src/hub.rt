@@ -14,7 +14,7 @@ use std::alloc::Global;
 /// An expression, which leads back to expressions and declarators so many times at most.
 #[cycle(hub)]
 #[tactic(auto, unfolding(crate::specs::Reading::expr_at, crate::specs::Reading::declarator_at))]
-pub fn expr_at<'t>(
+pub(crate) fn expr_at<'t>(
     alloc: Global,
     src: &[u8],
     depth: usize,
@@ -44,7 +44,7 @@ pub fn expr_at<'t>(
 /// A declarator, which leads back to expressions and declarators so many times at most.
 #[cycle(hub)]
 #[tactic(auto, unfolding(crate::specs::Reading::expr_at, crate::specs::Reading::declarator_at))]
-pub fn declarator_at<'t>(
+pub(crate) fn declarator_at<'t>(
     alloc: Global,
     src: &[u8],
     depth: usize,

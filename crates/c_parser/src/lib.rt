@@ -25,11 +25,8 @@ mod tests;
 mod tokens;
 mod unit;
 
-pub use fault::Fault;
-pub use hub::{declarator_at, expr_at};
 pub use law::{
     one_expression, one_refusal, one_unit, refusal_excludes_unit, refused_front_begins_unit,
 };
 pub use parser::parse;
 pub use refusal::ParseRefusal;
-pub use start::{Naming, Start};
