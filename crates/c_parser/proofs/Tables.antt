@@ -1,5 +1,5 @@
 -- Lookups in the tables of kinds.
-use Rattle.std.proofs.Common.{◌≡◌, ℕ, Bool, true, false, ◌||◌, ◌==◌, List, [], ◌∷◌, Option, Some, None, is_some, refl, if◌then◌else◌}
+use Rattle.std.proofs.Common.{◌≡◌, ℕ, Bool, true, false, ◌||◌, ◌==◌, [], ◌∷◌, Option, Some, is_some, refl, if◌then◌else◌}
 use Rattle.c_parser.specs.Codes.{Table, meaning, kinds, one_of}
 
 step : {A : Type 0} (b : Bool) (x : A) (rest : Option A) (others : Bool) → others ≡ is_some rest → (b || others) ≡ is_some (if b then Some x else rest)

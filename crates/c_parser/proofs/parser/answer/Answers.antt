@@ -1,4 +1,4 @@
-use Rattle.std.proofs.Common.{◌≡◌, ◌<◌, ◌≤◌, Some, None, Ok, Err, [], sym, ◌∙◌, ap, arith, rules}
+use Rattle.std.proofs.Common.{sym, ◌∙◌}
 use Rattle.c_parser.proofs.Depths.{deep_within}
 use Rattle.c_parser.proofs.parser.answer.Goals as goal
 

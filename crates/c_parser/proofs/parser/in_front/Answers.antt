@@ -1,4 +1,4 @@
-use Rattle.std.proofs.Common.{◌≡◌, ◌<◌, ◌≤◌, Some, None, Ok, Err, [], sym, ◌∙◌, ap, arith, rules}
+use Rattle.std.proofs.Common.{[], arith}
 use Rattle.c_parser.proofs.ParseLaws.{answers_refusal, deep_at_unit, deep_at_beginning, front_left, front_refused, slice_refusal}
 use Rattle.c_parser.proofs.parser.in_front.Goals as goal
 

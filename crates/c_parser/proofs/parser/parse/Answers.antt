@@ -1,4 +1,3 @@
-use Rattle.std.proofs.Common.{◌≡◌, ◌<◌, ◌≤◌, Some, None, Ok, Err, [], sym, ◌∙◌, ap, arith, rules}
 use Rattle.c_parser.proofs.ParseLaws.{answers_found, answers_refused}
 use Rattle.c_parser.proofs.parser.parse.Goals as goal
 

@@ -1,4 +1,4 @@
-use Rattle.std.proofs.Common.{◌≡◌, ◌<◌, ◌≤◌, Some, None, Ok, Err, [], sym, ◌∙◌, ap, arith, rules}
+use Rattle.std.proofs.Common.{[]}
 use Rattle.c_parser.proofs.ParseLaws.{answers_unit, answers_refusal, refused_left, whole_refused, slice_refusal}
 use Rattle.c_parser.proofs.parser.whole.Goals as goal
 

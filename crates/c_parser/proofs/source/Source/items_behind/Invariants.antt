@@ -1,11 +1,11 @@
-use Rattle.std.proofs.Common.{◌≡◌, ◌+◌, ◌*◌, ◌-◌, [], ◌∷◌}
-use Rattle.c_parser.specs.Codes.{comma, close_brace, specifier_starts}
+use Rattle.std.proofs.Common.{◌≡◌, ◌-◌, [], ◌∷◌}
+use Rattle.c_parser.specs.Codes.{comma}
 use Rattle.c_parser.specs.Spelling.{push}
 use Rattle.c_parser.specs.Reading as reading
 use Rattle.c_parser.specs.Reading.{begins, until}
 use Rattle.c_parser.specs.ReadingUnits as units
 use Rattle.c_parser.specs.UnitParts as parts
-use Rattle.c_parser.specs.UnitOutcome.{at_source, at_statement}
+use Rattle.c_parser.specs.UnitOutcome.{at_source}
 use Rattle.c_parser.proofs.source.Source.items_behind.Given as goal
 
 abbrev pub invariant-loop-turn : goal.invariant-loop-turn
