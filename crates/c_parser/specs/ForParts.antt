@@ -13,13 +13,16 @@ use Rattle.c_parser.specs.ReadingUnits.{optional}
 use Rattle.c_parser.specs.UnitParts.{second_branch}
 
 module _ (expr : Start → Reader Expr) (declarator : Naming → Reader Declarator) (depth : ℕ) (stmt : Reader Stmt) where
+  -- the body, with what stands before
+  abbrev pub for_body : ℕ → ForStart → Option Expr → Option Expr → Reader Stmt
+  for_body line start condition step = stmt >>= (λ body. pure (for_stmt line start condition step body))
+
   -- the step, the `)` and the body, with what stands before
   abbrev pub for_step : ℕ → ForStart → Option Expr → Reader Stmt
   for_step line start condition = do
     step ← optional expr declarator depth close_paren
     one close_paren
-    body ← stmt
-    pure (for_stmt line start condition step body)
+    for_body line start condition step
 
   -- the condition and all that follows
   abbrev pub for_condition : ℕ → ForStart → Reader Stmt
