@@ -312,6 +312,38 @@ where
         Ok((stmt, rest))
     }
 
+    /// A jump statement (C11 6.8.6), or an expression and `;`.
+    fn jump_line<'t>(&self, tokens: &'t [Token]) -> Read<'t, Stmt>
+        requires { LeadsToStatement S.Fn self.now.stmt self.now.source.src.now self.now.source.depth self.now.left }
+        ensures { Gives seen result (at_statement loop_parts.jump_line self.now.source.src.now self.now.source.depth self.now.left tokens.now) }
+    {
+        if begins(&[RETURN], tokens) {
+            self.return_statement(tokens)
+        } else if begins(&[BREAK], tokens) {
+            self.break_statement(tokens)
+        } else if begins(&[CONTINUE], tokens) {
+            self.continue_statement(tokens)
+        } else {
+            self.expr_statement(tokens)
+        }
+    }
+
+    /// An iteration statement (C11 6.8.5), or a line of `jump_line`.
+    fn iteration_line<'t>(&self, tokens: &'t [Token]) -> Read<'t, Stmt>
+        requires { LeadsToStatement S.Fn self.now.stmt self.now.source.src.now self.now.source.depth self.now.left }
+        ensures { Gives seen result (at_statement loop_parts.iteration_line self.now.source.src.now self.now.source.depth self.now.left tokens.now) }
+    {
+        if begins(&[WHILE], tokens) {
+            self.while_statement(tokens)
+        } else if begins(&[DO], tokens) {
+            self.do_statement(tokens)
+        } else if begins(&[FOR], tokens) {
+            self.for_statement(tokens)
+        } else {
+            self.jump_line(tokens)
+        }
+    }
+
     /// C11 6.8
     #[tactic(auto, unfolding(crate::specs::ReadingUnits::stmt_line))]
     pub fn statement<'t>(&self, tokens: &'t [Token]) -> Read<'t, Stmt>
@@ -324,20 +356,8 @@ where
             empty_statement(tokens)
         } else if begins(&[IF], tokens) {
             self.if_statement(tokens)
-        } else if begins(&[WHILE], tokens) {
-            self.while_statement(tokens)
-        } else if begins(&[DO], tokens) {
-            self.do_statement(tokens)
-        } else if begins(&[FOR], tokens) {
-            self.for_statement(tokens)
-        } else if begins(&[RETURN], tokens) {
-            self.return_statement(tokens)
-        } else if begins(&[BREAK], tokens) {
-            self.break_statement(tokens)
-        } else if begins(&[CONTINUE], tokens) {
-            self.continue_statement(tokens)
         } else {
-            self.expr_statement(tokens)
+            self.iteration_line(tokens)
         }
     }
 }
