@@ -1,12 +1,12 @@
 //! Statements (C11 6.8).
 
-ghost use Rattle.std.specs.Prelude.{◌≡◌, length};
+ghost use Rattle.std.specs.Prelude.{◌≡◌};
 ghost use Rattle.c_parser.specs.Reading as reading;
 ghost use Rattle.c_parser.specs.ReadingUnits as units;
 ghost use Rattle.c_parser.specs.UnitParts as parts;
 ghost use Rattle.c_parser.specs.ForParts as loop_parts;
 ghost use Rattle.c_parser.specs.Outcome.{Gives, seen};
-ghost use Rattle.c_parser.specs.UnitOutcome.{at_statement, at_source, statement_of, LeadsToStatement};
+ghost use Rattle.c_parser.specs.UnitOutcome.{at_statement, statement_of, LeadsToStatement};
 
 use crate::codes::{
     BREAK, CLOSE_BRACE, CLOSE_PAREN, CONTINUE, DO, ELSE, FOR, IF, OPEN_BRACE, OPEN_PAREN, RETURN,
