@@ -1,12 +1,12 @@
 //! Statements (C11 6.8).
 
-ghost use Rattle.std.specs.Prelude.{◌≡◌, length};
+ghost use Rattle.std.specs.Prelude.{◌≡◌};
 ghost use Rattle.c_parser.specs.Reading as reading;
 ghost use Rattle.c_parser.specs.ReadingUnits as units;
 ghost use Rattle.c_parser.specs.UnitParts as parts;
 ghost use Rattle.c_parser.specs.ForParts as loop_parts;
 ghost use Rattle.c_parser.specs.Outcome.{Gives, seen};
-ghost use Rattle.c_parser.specs.UnitOutcome.{at_statement, at_source, LeadsToStatement};
+ghost use Rattle.c_parser.specs.UnitOutcome.{at_statement, statement_of, LeadsToStatement};
 
 use crate::codes::{
     BREAK, CLOSE_BRACE, CLOSE_PAREN, CONTINUE, DO, ELSE, FOR, IF, OPEN_BRACE, OPEN_PAREN, RETURN,
@@ -117,6 +117,15 @@ where
         Ok((Stmt { line, node }, rest))
     }
 
+    /// A statement within a statement.
+    fn inner<'t>(&self, tokens: &'t [Token]) -> Read<'t, Boxed<Stmt>>
+        requires { LeadsToStatement S.Fn self.now.stmt self.now.source.src.now self.now.source.depth self.now.left }
+        ensures { Gives seen result (statement_of self.now.source.src.now self.now.source.depth self.now.left tokens.now) }
+    {
+        let (stmt, rest) = (self.stmt)(tokens)?;
+        Ok((Boxed::new(self.source.alloc, stmt)?, rest))
+    }
+
     /// Perhaps `else` and a statement.
     fn second_branch<'t>(&self, tokens: &'t [Token]) -> Read<'t, Option<Boxed<Stmt>>>
         requires { LeadsToStatement S.Fn self.now.stmt self.now.source.src.now self.now.source.depth self.now.left }
@@ -126,8 +135,8 @@ where
             return Ok((None, tokens));
         }
         let (_word, rest) = one(ELSE, tokens)?;
-        let (stmt, rest) = (self.stmt)(rest)?;
-        Ok((Some(Boxed::new(self.source.alloc, stmt)?), rest))
+        let (stmt, rest) = self.inner(rest)?;
+        Ok((Some(stmt), rest))
     }
 
     /// What follows the first branch of an `if` statement, with what stands before.
@@ -158,8 +167,7 @@ where
     {
         let (word, rest) = one(IF, tokens)?;
         let (condition, rest) = self.source.condition(rest)?;
-        let (first, rest) = (self.stmt)(rest)?;
-        let first = Boxed::new(self.source.alloc, first)?;
+        let (first, rest) = self.inner(rest)?;
         let (stmt, rest) = self.if_second(word.line, condition, first, rest)?;
         Ok((stmt, rest))
     }
@@ -172,8 +180,7 @@ where
     {
         let (word, rest) = one(WHILE, tokens)?;
         let (condition, rest) = self.source.condition(rest)?;
-        let (body, rest) = (self.stmt)(rest)?;
-        let body = Boxed::new(self.source.alloc, body)?;
+        let (body, rest) = self.inner(rest)?;
         let stmt = Stmt {
             line: word.line,
             node: StmtNode::While(condition, body),
@@ -188,11 +195,10 @@ where
         ensures { Gives seen result (at_statement units.do_statement self.now.source.src.now self.now.source.depth self.now.left tokens.now) }
     {
         let (word, rest) = one(DO, tokens)?;
-        let (body, rest) = (self.stmt)(rest)?;
+        let (body, rest) = self.inner(rest)?;
         let (_while, rest) = one(WHILE, rest)?;
         let (condition, rest) = self.source.condition(rest)?;
         let (_semicolon, rest) = one(SEMICOLON, rest)?;
-        let body = Boxed::new(self.source.alloc, body)?;
         let stmt = Stmt {
             line: word.line,
             node: StmtNode::Do(body, condition),
@@ -200,8 +206,28 @@ where
         Ok((stmt, rest))
     }
 
-    /// The step of a `for` statement, the `)` and the body, with what stands before.
+    /// The body of a `for` statement, with what stands before.
     #[tactic(auto, unfolding(crate::specs::StatementNodes::stmt_at))]
+    fn for_body<'t>(
+        &self,
+        line: u32,
+        start: ForStart,
+        condition: Option<Expr>,
+        step: Option<Expr>,
+        tokens: &'t [Token],
+    ) -> Read<'t, Stmt>
+        requires { LeadsToStatement S.Fn self.now.stmt self.now.source.src.now self.now.source.depth self.now.left }
+        ensures { Gives seen result (at_statement loop_parts.for_body self.now.source.src.now self.now.source.depth self.now.left line start condition step tokens.now) }
+    {
+        let (body, rest) = self.inner(tokens)?;
+        let stmt = Stmt {
+            line,
+            node: StmtNode::For(start, condition, step, body),
+        };
+        Ok((stmt, rest))
+    }
+
+    /// The step of a `for` statement, the `)` and the body, with what stands before.
     fn for_step<'t>(
         &self,
         line: u32,
@@ -214,12 +240,7 @@ where
     {
         let (step, rest) = self.source.optional(CLOSE_PAREN, tokens)?;
         let (_close, rest) = one(CLOSE_PAREN, rest)?;
-        let (body, rest) = (self.stmt)(rest)?;
-        let body = Boxed::new(self.source.alloc, body)?;
-        let stmt = Stmt {
-            line,
-            node: StmtNode::For(start, condition, step, body),
-        };
+        let (stmt, rest) = self.for_body(line, start, condition, step, rest)?;
         Ok((stmt, rest))
     }
 
@@ -291,6 +312,38 @@ where
         Ok((stmt, rest))
     }
 
+    /// A jump statement (C11 6.8.6), or an expression and `;`.
+    fn jump_line<'t>(&self, tokens: &'t [Token]) -> Read<'t, Stmt>
+        requires { LeadsToStatement S.Fn self.now.stmt self.now.source.src.now self.now.source.depth self.now.left }
+        ensures { Gives seen result (at_statement loop_parts.jump_line self.now.source.src.now self.now.source.depth self.now.left tokens.now) }
+    {
+        if begins(&[RETURN], tokens) {
+            self.return_statement(tokens)
+        } else if begins(&[BREAK], tokens) {
+            self.break_statement(tokens)
+        } else if begins(&[CONTINUE], tokens) {
+            self.continue_statement(tokens)
+        } else {
+            self.expr_statement(tokens)
+        }
+    }
+
+    /// An iteration statement (C11 6.8.5), or a line of `jump_line`.
+    fn iteration_line<'t>(&self, tokens: &'t [Token]) -> Read<'t, Stmt>
+        requires { LeadsToStatement S.Fn self.now.stmt self.now.source.src.now self.now.source.depth self.now.left }
+        ensures { Gives seen result (at_statement loop_parts.iteration_line self.now.source.src.now self.now.source.depth self.now.left tokens.now) }
+    {
+        if begins(&[WHILE], tokens) {
+            self.while_statement(tokens)
+        } else if begins(&[DO], tokens) {
+            self.do_statement(tokens)
+        } else if begins(&[FOR], tokens) {
+            self.for_statement(tokens)
+        } else {
+            self.jump_line(tokens)
+        }
+    }
+
     /// C11 6.8
     #[tactic(auto, unfolding(crate::specs::ReadingUnits::stmt_line))]
     pub fn statement<'t>(&self, tokens: &'t [Token]) -> Read<'t, Stmt>
@@ -303,20 +356,8 @@ where
             empty_statement(tokens)
         } else if begins(&[IF], tokens) {
             self.if_statement(tokens)
-        } else if begins(&[WHILE], tokens) {
-            self.while_statement(tokens)
-        } else if begins(&[DO], tokens) {
-            self.do_statement(tokens)
-        } else if begins(&[FOR], tokens) {
-            self.for_statement(tokens)
-        } else if begins(&[RETURN], tokens) {
-            self.return_statement(tokens)
-        } else if begins(&[BREAK], tokens) {
-            self.break_statement(tokens)
-        } else if begins(&[CONTINUE], tokens) {
-            self.continue_statement(tokens)
         } else {
-            self.expr_statement(tokens)
+            self.iteration_line(tokens)
         }
     }
 }

@@ -1,10 +1,9 @@
-use Rattle.std.proofs.Common.{◌∙◌, [], ◌∷◌, arith, rules}
-use Rattle.c_parser.specs.Codes.{comma, close_brace, specifier_starts}
+use Rattle.std.proofs.Common.{◌∙◌, arith, rules}
+use Rattle.c_parser.specs.Codes.{close_brace}
 use Rattle.c_parser.specs.Spelling.{push}
-use Rattle.c_parser.specs.Reading as reading
-use Rattle.c_parser.specs.Reading.{begins, until}
+use Rattle.c_parser.specs.Reading.{until}
 use Rattle.c_parser.specs.ReadingUnits as units
-use Rattle.c_parser.specs.UnitOutcome.{at_source, at_statement}
+use Rattle.c_parser.specs.UnitOutcome.{at_statement}
 use Rattle.c_parser.proofs.Loops.{grown_turn}
 use Rattle.c_parser.proofs.statement.Statements.block_items.Goals as goal
 
