@@ -1,3 +1,6 @@
+pub mod Tables
+pub mod Loops
+pub mod Leaves
 pub mod Alike
 pub mod Sound
 pub mod Repeat
@@ -22,3 +25,5 @@ pub mod EnoughExpr
 pub mod EnoughUnit
 pub mod RefusalLaws
 pub mod ParseLaws
+pub mod Depths
+pub mod Ladder

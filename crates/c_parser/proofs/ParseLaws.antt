@@ -1,8 +1,8 @@
 -- What the whole parse answers: the unit, the refusal of the tokens, or that of the first token that is nested too
 -- deeply, whichever place is first.
-use Rattle.std.proofs.Common.{◌≡◌, ℕ, zero, suc, ◌+◌, ◌-◌, ◌<◌, Bool, true, false, List, [], ◌∷◌, ◌++◌, length, take, drop, get_or, refl, ap, sym, ◌∙◌, subst, Option, Some, None, Ok, Err, ◌⊎◌, inl, inr, if◌then◌else◌, length-append, arith}
+use Rattle.std.proofs.Common.{◌≡◌, ℕ, zero, suc, ◌+◌, ◌-◌, ◌≤◌, Result, ◌<◌, Bool, true, false, List, [], ◌∷◌, ◌++◌, length, take, drop, get_or, refl, ap, sym, ◌∙◌, subst, Option, Some, None, Ok, Err, ◌⊎◌, inl, inr, if◌then◌else◌, length-append, arith}
 use Rattle.std.specs.Prelude.{IfSome}
-use Rattle.std.proofs.lemmas.List.{append-nil, append_assoc, take-append-drop, length-take-le}
+use Rattle.std.proofs.lemmas.List.{append-nil, append_assoc, take-append-drop, length-take-le, length-drop}
 use Rattle.std.proofs.Math.Seq.{drop-append_seam}
 use Rattle.c_lexer.specs.declared.token.Token.{Token}
 use Rattle.c_tree.specs.declared.unit.Unit.{Unit as TheUnit}
@@ -12,9 +12,10 @@ use Rattle.c_parser.specs.Nodes.{Bytes}
 use Rattle.c_parser.specs.Units.{Derives}
 use Rattle.c_parser.specs.Nesting.{first_too_deep}
 use Rattle.c_parser.specs.Refusals.{BeginsUnit, Stops, RefusedAt, is_left_out, IsRefusalOf, NoneTooDeep, Refuses}
+use Rattle.c_parser.specs.Answers.{Answers, IsUnitWithin, UnlessMemory}
 use Rattle.c_parser.specs.ReadingUnits.{unit_of}
 use Rattle.c_parser.proofs.Alike.{head_same, tail_same, some_same}
-use Rattle.c_parser.proofs.UnitLaws.{unit_of_found}
+use Rattle.c_parser.proofs.UnitLaws.{one_unit_of, unit_of_found}
 use Rattle.c_parser.proofs.RefusalLaws.{unit_of_refused, refusal_is_no_unit, cut_once}
 
 -- ---- beginnings
@@ -226,3 +227,79 @@ one_refusal_of tokens src (LeftOut p x) (TooDeep q) h k = absurd (not_both src t
 one_refusal_of tokens src (TooDeep p) (Expected q) h k = absurd (not_both src tokens (Expected q) p k h)
 one_refusal_of tokens src (TooDeep p) (LeftOut q y) h k = absurd (not_both src tokens (LeftOut q y) p k h)
 one_refusal_of tokens src (TooDeep p) (TooDeep q) h k = both_deep src tokens p q h k
+
+-- ---- from what the parse answers
+
+-- not more tokens are left than there are
+pub refused_left : (src : Bytes) (w : List Token) (left : ℕ) → unit_of src w ≡ Err left → left ≤ length w
+refused_left src w left e =
+    let found = unit_of_refused src w left e in
+    let sum : length w ≡ length found.0 + length found.1 = ap length found.2.parts ∙ length-append found.0 found.1 in
+    let size : left ≡ length found.1 = found.3 in omega arith
+
+refuses_of : (tokens : List Token) (src : Bytes) (e : ParseRefusal) → Answers tokens src (Err e) → (e ≡ Memory) ⊎ Refuses tokens src e
+refuses_of tokens src (Expected place) h = inr h
+refuses_of tokens src (LeftOut place kind) h = inr h
+refuses_of tokens src (TooDeep place) h = inr h
+refuses_of tokens src Memory h = inl refl
+
+pub answers_refusal : (tokens : List Token) (src : Bytes) (e : ParseRefusal) → Refuses tokens src e → Answers tokens src (Err e)
+answers_refusal tokens src (Expected place) h = h
+answers_refusal tokens src (LeftOut place kind) h = h
+answers_refusal tokens src (TooDeep place) h = h
+answers_refusal tokens src Memory h = tt
+
+pub answers_found : (tokens : List Token) (src : Bytes) (result : Result TheUnit ParseRefusal) → Answers tokens src result → (unit : TheUnit) → IsUnitWithin tokens src unit → UnlessMemory result (Ok unit)
+answers_found tokens src (Ok u) h unit k = inr (ap Ok (one_unit_of src tokens u unit h.0 k.0))
+answers_found tokens src (Err e) h unit k = elim (refuses_of tokens src e h) [
+  | inl memory ↦ inl (ap Err memory)
+  | inr refuses ↦ absurd (refuses_no_unit tokens src e unit refuses k.1 k.0)
+]
+
+pub answers_refused : (tokens : List Token) (src : Bytes) (result : Result TheUnit ParseRefusal) → Answers tokens src result → (refusal : ParseRefusal) → Refuses tokens src refusal → UnlessMemory result (Err refusal)
+answers_refused tokens src (Ok u) h refusal k = absurd (refuses_no_unit tokens src refusal u k h.1 h.0)
+answers_refused tokens src (Err e) h refusal k = elim (refuses_of tokens src e h) [
+  | inl memory ↦ inl (ap Err memory)
+  | inr refuses ↦ inr (ap Err (one_refusal_of tokens src e refusal refuses k))
+]
+
+pub answers_unit : (tokens : List Token) (src : Bytes) (unit : TheUnit) (rest : List Token) → first_too_deep tokens ≡ None → unit_of src tokens ≡ Ok (unit, rest) → Answers tokens src (Ok unit)
+answers_unit tokens src unit rest none e = ((unit_of_found src tokens unit rest e).0, none)
+
+-- ---- at a place in the tokens
+
+cut_with : (tokens : List Token) (at : ℕ) (d : Token) → at < length tokens → tokens ≡ take at tokens ++ get_or tokens at d ∷ drop (suc at) tokens
+cut_with [] at d lt = absurd (omega arith)
+cut_with (u ∷ tokens) zero d lt = refl
+cut_with (u ∷ tokens) (suc at) d lt = ap (λ v. u ∷ v) (cut_with tokens at d (omega arith))
+
+deep_place : (src : Bytes) (tokens : List Token) (at : ℕ) (d : Token) → at < length tokens → first_too_deep tokens ≡ Some at → BeginsUnit (take at tokens) src → Answers tokens src (Err (TooDeep (get_or tokens at d).start))
+deep_place src tokens at d lt deep b =
+    (take at tokens, get_or tokens at d, drop (suc at) tokens, cut_with tokens at d lt, deep ∙ ap Some (front_length tokens at lt), b, refl)
+
+pub deep_at_unit : (src : Bytes) (tokens : List Token) (at : ℕ) (d : Token) (u : TheUnit) (rest : List Token) → at < length tokens → first_too_deep tokens ≡ Some at → unit_of src (take at tokens) ≡ Ok (u, rest)
+    → Answers tokens src (Err (TooDeep (get_or tokens at d).start))
+deep_at_unit src tokens at d u rest lt deep e = deep_place src tokens at d lt deep (unit_begins src (take at tokens) u (unit_of_found src (take at tokens) u rest e).0)
+
+pub deep_at_beginning : (src : Bytes) (tokens : List Token) (at left : ℕ) (d : Token) → at < length tokens → first_too_deep tokens ≡ Some at → left ≡ 0 → unit_of src (take at tokens) ≡ Err left
+    → Answers tokens src (Err (TooDeep (get_or tokens at d).start))
+deep_at_beginning src tokens at left d lt deep z e =
+    let found = unit_of_refused src (take at tokens) left e in
+    let P : List Token → Type 0 = λ v. BeginsUnit v src in
+    deep_place src tokens at d lt deep (subst P (end_front (take at tokens) found.0 found.1 found.2.parts (sym z ∙ found.3)) found.2.begins)
+
+pub front_left : (src : Bytes) (tokens : List Token) (at left : ℕ) → at < length tokens → unit_of src (take at tokens) ≡ Err left → left ≤ at
+front_left src tokens at left lt e = let low = refused_left src (take at tokens) left e in let long = front_length tokens at lt in omega (arith, low, long)
+
+take_whole : (tokens : List Token) (n : ℕ) → length tokens ≤ n → take n tokens ≡ tokens
+take_whole [] zero le = refl
+take_whole [] (suc n) le = refl
+take_whole (t ∷ tokens) zero le = absurd (omega arith)
+take_whole (t ∷ tokens) (suc n) le = ap (λ v. t ∷ v) (take_whole tokens n (omega arith))
+
+-- the tokens from a place on, as a slice
+slice_from : (tokens : List Token) (k : ℕ) → take (length tokens - k) (drop k tokens) ≡ drop k tokens
+slice_from tokens k = take_whole (drop k tokens) (length tokens - k) (let e = length-drop k tokens in omega (arith, e))
+
+pub slice_refusal : (src : Bytes) (tokens : List Token) (k : ℕ) (refusal : ParseRefusal) → IsRefusalOf src (take (length tokens - k) (drop k tokens)) refusal → IsRefusalOf src (drop k tokens) refusal
+slice_refusal src tokens k refusal h = let P : List Token → Type 0 = λ v. IsRefusalOf src v refusal in subst P (slice_from tokens k) h

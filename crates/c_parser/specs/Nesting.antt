@@ -1,18 +1,8 @@
 -- How deeply a token is nested: a function of the tokens up to it, whether they spell anything or not.
-use Rattle.std.specs.Prelude.{ℕ, ◌+◌, ◌-◌, Bool, true, false, not, ◌||◌, ◌&&◌, if◌then◌else◌, ◌==◌, nat_lt, nat_le, List, [], ◌∷◌, length, Option, position, sum_by}
+use Rattle.std.specs.Prelude.{ℕ, suc, ◌+◌, ◌-◌, Bool, true, false, not, ◌||◌, ◌&&◌, if◌then◌else◌, ◌==◌, nat_lt, nat_le, List, [], ◌∷◌, Option, Some, None, option_map}
 use Rattle.c_lexer.specs.declared.token.Token.{Token}
+use Rattle.c_parser.specs.declared.nesting.Level.{Level}
 use Rattle.c_parser.specs.Codes.{code, punct, one_of, open_bracket, close_bracket, open_paren, close_paren, open_brace, close_brace, comma, semicolon, sizeof_word, do_word, else_word, for_word, if_word, while_word}
-
--- What was read at a level: the file's, or that of an open `(`, `[` or `{`.
-pub record Level : Type 0 where
-  -- whether it is that of a `{`
-  pub brace : Bool
-  -- the operators since its start or its last `,`, `;`, `{` or `}`
-  pub operators : ℕ
-  -- the words of statements since its start or its last end of a statement
-  pub words : ℕ
-  -- those `do` among them that are still without their `while`
-  pub dos : ℕ
 
 abbrev pub started : Bool → Level
 started brace = record { brace = brace; operators = 0; words = 0; dos = 0 }
@@ -49,6 +39,10 @@ settled l l' false = l
 unfoldable pub found_by : ℕ → Levels → Levels
 found_by k s = record { innermost = settled s.innermost (behind_end k s.innermost) s.ended; others = s.others; ended = false }
 
+-- a bracket that opens begins a level inside the innermost
+abbrev pub opened : Level → Bool → List Level → Levels
+opened l brace others = record { innermost = started brace; others = l ∷ others; ended = false }
+
 -- a bracket that closes leaves the level that surrounds the innermost; the file's level stays
 abbrev pub closed : Level → Bool → List Level → Levels
 closed l by_brace [] = record { innermost = l; others = []; ended = false }
@@ -64,16 +58,21 @@ counted k l =
 unfoldable pub behind : ℕ → Levels → Levels
 behind k s =
     let here = counted k s.innermost in
-    if one_of (open_paren ∷ open_bracket ∷ open_brace ∷ []) k then record { innermost = started (k == open_brace); others = here ∷ s.others; ended = false }
+    if one_of (open_paren ∷ open_bracket ∷ open_brace ∷ []) k then opened here (k == open_brace) s.others
     else (if one_of (close_paren ∷ close_bracket ∷ close_brace ∷ []) k then closed here (k == close_brace) s.others
     else record { innermost = here; others = s.others; ended = k == semicolon })
 
 abbrev pub weight : Level → ℕ
 weight l = l.operators + l.words
 
+-- levels around others: their brackets, and the operators and words read at them
+abbrev pub around : List Level → ℕ
+around [] = 0
+around (l ∷ ls) = suc (weight l) + around ls
+
 -- the open brackets, and the operators and words of all open levels
 unfoldable pub nesting_in : Levels → ℕ
-nesting_in s = length s.others + (weight s.innermost + sum_by weight s.others)
+nesting_in s = around s.others + weight s.innermost
 
 -- the nesting of each token, the levels before the first being these
 unfoldable pub nestings : Levels → List Token → List ℕ
@@ -83,6 +82,11 @@ nestings s (t ∷ rest) = let here = found_by (code t) s in nesting_in here ∷ 
 abbrev pub max_nesting : ℕ
 max_nesting = 400
 
+-- the place of the first number that is too large
+unfoldable pub first_above : List ℕ → Option ℕ
+first_above [] = None
+first_above (n ∷ ns) = if nat_lt max_nesting n then Some 0 else option_map (λ k. suc k) (first_above ns)
+
 -- the first token that is nested too deeply, if there is one
 unfoldable pub first_too_deep : List Token → Option ℕ
-first_too_deep tokens = position (λ n. nat_lt max_nesting n) (nestings at_start tokens)
+first_too_deep tokens = first_above (nestings at_start tokens)

@@ -1,16 +1,32 @@
-//! The grammar of a source (C11 6.5 to 6.9, in the accepted subset) over its tokens: which tree some tokens
-//! are, and at which place and why other tokens are refused.
-//!
-//! The crate defines both and proves laws on them; the parser that meets them joins later. It stands on the
-//! tokens of `c_lexer` and the trees of `c_tree`.
+//! The syntax tree of a source's tokens (C11 6.5 to 6.9, in the accepted subset), or the place at which they
+//! stop being one.
 #![tactic(auto)]
 
+#[cfg(test)]
+mod accepted;
+mod codes;
+mod declarator;
+mod expression;
+mod fault;
+mod grammar;
+mod hub;
 mod law;
+mod leaf;
+mod nesting;
+mod parser;
 mod refusal;
+#[cfg(test)]
+mod refusals;
+mod source;
 mod start;
+mod statement;
+#[cfg(test)]
+mod tests;
+mod tokens;
+mod unit;
 
 pub use law::{
     one_expression, one_refusal, one_unit, refusal_excludes_unit, refused_front_begins_unit,
 };
+pub use parser::parse;
 pub use refusal::ParseRefusal;
-pub use start::{Naming, Start};

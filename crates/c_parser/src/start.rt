@@ -1,6 +1,6 @@
 /// The line of the grammar of expressions at which reading begins (C11 6.5).
 #[derive(Clone, Copy, Debug, PartialEq, Eq)]
-pub enum Start {
+pub(crate) enum Start {
     /// C11 6.5.17
     Expression,
     /// C11 6.5.16
@@ -15,7 +15,7 @@ pub enum Start {
 
 /// Whether a declarator declares a name.
 #[derive(Clone, Copy, Debug, PartialEq, Eq)]
-pub enum Naming {
+pub(crate) enum Naming {
     /// It does (C11 6.7.6).
     Named,
     /// It does not (C11 6.7.7).

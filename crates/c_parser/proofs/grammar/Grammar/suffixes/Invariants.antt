@@ -1,0 +1,15 @@
+use Rattle.std.proofs.Common.{◌≡◌, ◌-◌, List, [], ◌∷◌, ◌++◌}
+use Rattle.c_parser.specs.declared.start.Start.TheVariants as start
+use Rattle.c_parser.specs.Codes.{kinds, star, comma, text, qualifiers, specifier_starts, postfix_starts, suffix_starts}
+use Rattle.c_parser.specs.Nodes.{qualified, text_of, comma_node}
+use Rattle.c_parser.specs.Spelling.{push}
+use Rattle.c_parser.specs.Reading as reading
+use Rattle.c_parser.specs.Reading.{begins}
+use Rattle.c_parser.specs.Parts as parts
+use Rattle.c_parser.specs.Outcome.{at_depth}
+use Rattle.c_parser.proofs.grammar.Grammar.suffixes.Given as goal
+
+abbrev pub invariant-loop-turn : goal.invariant-loop-turn
+invariant-loop-turn g l =
+    reading.grown_from (begins suffix_starts) push (at_depth reading.suffix l.self.src.now l.self.depth) (l._turn-end - l._turn) l.found l.rest
+    ≡ at_depth reading.suffixes l.self.src.now l.self.depth l.fn.before l.fn.tokens
