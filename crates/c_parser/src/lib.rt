@@ -2,8 +2,6 @@
 //! stop being one.
 #![tactic(auto)]
 
-#[cfg(test)]
-mod accepted;
 mod codes;
 mod declarator;
 mod expression;
@@ -15,13 +13,9 @@ mod leaf;
 mod nesting;
 mod parser;
 mod refusal;
-#[cfg(test)]
-mod refusals;
 mod source;
 mod start;
 mod statement;
-#[cfg(test)]
-mod tests;
 mod tokens;
 mod unit;
 

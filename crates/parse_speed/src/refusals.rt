@@ -1,9 +1,9 @@
 //! Sources that are refused, by the line of the grammar that they break.
 
-use crate::refusal::ParseRefusal::{self, Expected, LeftOut};
 use c_lexer::TokenKind;
+use c_parser::ParseRefusal::{self, Expected, LeftOut};
 
-/// What is no `external`.
+/// What is no `unit` or `external`.
 pub const EXTERNAL: [(&[u8], ParseRefusal); 12] = [
     (b"int", Expected(3)),
     (b"int f(void) int", Expected(12)),
@@ -54,7 +54,7 @@ pub const SPECS: [(&[u8], ParseRefusal); 7] = [
     (b"auto int a;", LeftOut(0, TokenKind::Keyword(0))),
 ];
 
-/// What is no `declarator`.
+/// What is no `declarator` or `pointer`.
 pub const DECLARATOR: [(&[u8], ParseRefusal); 8] = [
     (b"int * * ;", Expected(8)),
     (b"int const;", Expected(9)),
@@ -126,7 +126,7 @@ pub const PARAM: [(&[u8], ParseRefusal); 12] = [
     (b"int f(int ();", Expected(12)),
 ];
 
-/// What is no `abstract`.
+/// What is no `abstract` or `dabs`.
 pub const ABSTRACT: [(&[u8], ParseRefusal); 12] = [
     (b"int f(void){(int a)1;}", Expected(17)),
     (b"int f(void){(int *a)1;}", Expected(18)),
@@ -352,4 +352,30 @@ pub const PRIMARY: [(&[u8], ParseRefusal); 12] = [
         LeftOut(12, TokenKind::Keyword(39)),
     ),
     (b"int f(void){[1];}", Expected(12)),
+];
+
+/// All of them.
+pub const LINES: [&[(&[u8], ParseRefusal)]; 22] = [
+    &EXTERNAL,
+    &DECLARATION,
+    &ITEM,
+    &SPECS,
+    &DECLARATOR,
+    &DIRECT,
+    &SUFFIX,
+    &PARAMS,
+    &PARAM,
+    &ABSTRACT,
+    &INIT,
+    &BLOCK,
+    &STMT,
+    &EXPR,
+    &ASSIGN,
+    &COND,
+    &BINARY,
+    &CAST,
+    &TYPENAME,
+    &UNARY,
+    &POSTFIX,
+    &PRIMARY,
 ];
