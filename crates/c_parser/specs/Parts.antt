@@ -9,7 +9,7 @@ use Rattle.c_parser.specs.declared.start.Start.TheVariants as at
 use Rattle.c_parser.specs.declared.start.Naming.{Naming}
 use Rattle.c_parser.specs.Codes.{kinds, binary_operators, name, text, close_bracket, close_paren, postfix_operators}
 use Rattle.c_parser.specs.Nodes.{Bytes, comma_node, name_node, text_of, postfix_node, sizeof_expr_node, sizeof_type_node}
-use Rattle.c_parser.specs.Reading.{Reader, one, grown, sign, ◌>>=◌, ◌<$>◌, pure, choose, begins, then_begins, begins_type, in_parens, type_name, parameters, may_end, core_starts, cast, assignment, behind_comma, level, operated, operation}
+use Rattle.c_parser.specs.Reading.{Reader, one, grown, sign, ◌>>=◌, ◌<$>◌, pure, choose, begins, begins_type, in_parens, type_name, parameters, may_end, core_starts, cast, assignment, behind_comma, level, operated, operation}
 
 -- the tokens behind the first one
 abbrev pub behind : List Token → List Token

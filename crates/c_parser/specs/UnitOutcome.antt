@@ -1,5 +1,5 @@
 -- What the code answers for declarations, statements and units, beside what a reader of lists answers.
-use Rattle.std.specs.Prelude.{◌≡◌, ℕ, Result, Ok, Err, List}
+use Rattle.std.specs.Prelude.{ℕ, Result, List}
 use Rattle.std.specs.Fn.{Shared}
 use Rattle.std.specs.Borrow.{Bor}
 use Rattle.c_lexer.specs.declared.token.Token.{Token}

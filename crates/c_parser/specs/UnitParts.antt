@@ -1,6 +1,5 @@
 -- Parts of lines of the grammar of declarations, statements and units, each of which is a function of its own.
 use Rattle.std.specs.Prelude.{ℕ, List, [], ◌∷◌, Option, Some, None}
-use Rattle.c_lexer.specs.declared.token.Token.{Token}
 use Rattle.c_tree.specs.declared.specifier.Specifier.{Specifier}
 use Rattle.c_tree.specs.declared.expression.Expr.{Expr}
 use Rattle.c_tree.specs.declared.expression.Declarator.{Declarator}
@@ -13,9 +12,9 @@ use Rattle.c_tree.specs.declared.unit.External.{External}
 use Rattle.c_parser.specs.declared.start.Start.{Start}
 use Rattle.c_parser.specs.declared.start.Start.TheVariants as at
 use Rattle.c_parser.specs.declared.start.Naming.{Naming}
-use Rattle.c_parser.specs.Codes.{comma, semicolon, else_word, break_word, continue_word, specifier_starts}
+use Rattle.c_parser.specs.Codes.{comma, semicolon, else_word, specifier_starts}
 use Rattle.c_parser.specs.Spelling.{push}
-use Rattle.c_parser.specs.StatementNodes.{item_node, declaration_node, block_stmt, empty_stmt, break_stmt, continue_stmt}
+use Rattle.c_parser.specs.StatementNodes.{item_node, declaration_node, block_stmt, empty_stmt}
 use Rattle.c_parser.specs.Reading.{Reader, ◌>>=◌, ◌>>◌, ◌<$>◌, pure, one, begins, choose, grown, behind_comma}
 use Rattle.c_parser.specs.ReadingUnits.{item, given, further_items, block, external}
 

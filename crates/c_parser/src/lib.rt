@@ -19,6 +19,11 @@ mod statement;
 mod tokens;
 mod unit;
 
+pub use c_tree::{
+    BinaryOp, Block, BlockItem, Declaration, Declarator, Direct, Expr, ExprNode, External,
+    ForStart, Initializer, Item, Name, Parameter, Pointer, PostfixOp, PrefixOp, Specifier,
+    SpecifierWord, Stmt, StmtNode, Suffix, TypeName, Unit,
+};
 pub use law::{
     one_expression, one_refusal, one_unit, refusal_excludes_unit, refused_front_begins_unit,
 };

@@ -1,10 +1,8 @@
-use Rattle.std.proofs.Common.{◌∙◌, List, [], ◌∷◌, ◌++◌, arith, rules}
-use Rattle.c_parser.specs.Codes.{kinds, star, comma, text, qualifiers, specifier_starts, postfix_starts, suffix_starts}
-use Rattle.c_parser.specs.Nodes.{qualified, text_of, comma_node}
+use Rattle.std.proofs.Common.{◌∙◌, [], ◌∷◌, arith, rules}
+use Rattle.c_parser.specs.Codes.{star}
 use Rattle.c_parser.specs.Spelling.{push}
 use Rattle.c_parser.specs.Reading as reading
 use Rattle.c_parser.specs.Reading.{begins}
-use Rattle.c_parser.specs.Outcome.{at_depth}
 use Rattle.c_parser.proofs.Loops.{grown_turn}
 use Rattle.c_parser.proofs.declarator.pointers.Goals as goal
 

@@ -1,4 +1,4 @@
-use Rattle.std.proofs.Common.{◌∙◌, sym, List, [], ◌∷◌, arith, rules}
+use Rattle.std.proofs.Common.{◌∙◌, sym, [], ◌∷◌, arith, rules}
 use Rattle.std.proofs.lemmas.Result.{err_from_is_err_and}
 use Rattle.c_parser.specs.Codes.{comma}
 use Rattle.c_parser.specs.Nodes.{comma_node}

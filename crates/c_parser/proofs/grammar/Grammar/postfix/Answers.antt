@@ -1,8 +1,5 @@
-use Rattle.std.proofs.Common.{◌∙◌, sym, List, [], ◌∷◌, ◌++◌, arith, rules}
-use Rattle.c_parser.specs.declared.start.Start.TheVariants as start
-use Rattle.c_parser.specs.Codes.{kinds, star, comma, text, qualifiers, specifier_starts, postfix_starts, suffix_starts, binary_operators}
-use Rattle.c_parser.specs.Nodes.{qualified, text_of, comma_node}
-use Rattle.c_parser.specs.Spelling.{push}
+use Rattle.std.proofs.Common.{◌∙◌, sym, arith, rules}
+use Rattle.c_parser.specs.Codes.{postfix_starts}
 use Rattle.c_parser.specs.Reading as reading
 use Rattle.c_parser.specs.Reading.{begins}
 use Rattle.c_parser.specs.Outcome.{at_depth}
