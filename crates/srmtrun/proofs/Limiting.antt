@@ -1,5 +1,5 @@
 -- The limits of a run fit every valid program.
-use Rattle.std.proofs.Common.{◌≡◌, ℕ, ◌^◌, ◌<◌, ◌≤◌, List, Bool, false, arith}
+use Rattle.std.proofs.Common.{◌≡◌, ◌≤◌, List, false, arith}
 use Rattle.std.specs.Prelude.{nat_lt, sum_by}
 use Rattle.std.specs.List.{list_any}
 use Rattle.std.proofs.lemmas.Bool.{ltb-false}

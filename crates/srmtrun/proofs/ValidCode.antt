@@ -1,12 +1,12 @@
 -- The middle code of a source of the first form is valid.
-use Rattle.std.proofs.Common.{◌≡◌, ◌≢◌, ℕ, zero, suc, ◌+◌, ◌-◌, ◌*◌, ◌^◌, ◌<◌, ◌≤◌, List, [], ◌∷◌, ◌++◌, length, take, get_or, All, Option, Some, None, Bool, true, false, ◌⊎◌, inl, inr, refl, sym, ap, subst, ◌∙◌, arith, append_assoc, length-append}
-use Rattle.std.specs.Prelude.{slice_get, sum_by, ◌==◌, ◌&&◌, ◌||◌, not, nat_lt, nat_le, if◌then◌else◌}
+use Rattle.std.proofs.Common.{◌≡◌, ◌≢◌, ℕ, zero, suc, ◌+◌, ◌*◌, ◌^◌, ◌<◌, ◌≤◌, List, [], ◌∷◌, ◌++◌, length, take, get_or, All, Option, Some, None, Bool, true, false, ◌⊎◌, inl, inr, refl, sym, ap, subst, ◌∙◌, arith, append_assoc, length-append}
+use Rattle.std.specs.Prelude.{slice_get, ◌==◌, ◌&&◌, ◌||◌, not, nat_lt, if◌then◌else◌}
 use Rattle.std.specs.List.{flat_map, AllByRecursion, list_any}
 use Rattle.std.proofs.Math.Seq.{get_or-append_seam}
 use Rattle.std.proofs.lemmas.Bool.{ne_eqb, eq-eqb, eqb-true, le-ltb, lt-leb}
 use Rattle.std.proofs.lemmas.List.Concat.{flat_map-cons}
 use Rattle.std.proofs.lemmas.List.Elements.{All-cons, All-from_recursion}
-use Rattle.std.proofs.lemmas.Option.{get_or_from_slice_get, slice_get_within}
+use Rattle.std.proofs.lemmas.Option.{get_or_from_slice_get}
 use Rattle.srmt_base.specs.declared.ty.Ty.TheVariants.{Int, UChar}
 use Rattle.mid_code.specs.declared.program.RegisterKind.TheVariants.{Number}
 use Rattle.mid_code.specs.declared.program.MidFunction.{MidFunction}
@@ -15,7 +15,7 @@ use Rattle.mid_code.specs.declared.mid.Mid.{Mid}
 use Rattle.mid_code.specs.declared.mid.Mid.TheVariants.{Const, Conv, Put, Exit}
 use Rattle.mid_code.specs.Operands.{operands}
 use Rattle.mid_code.specs.Flow.{goes_to, enters, leaves, entry, entered, found_at, same_places, has_others, closes_wrongly, enters_wrongly, breaks_order_by, breaks_order}
-use Rattle.mid_code.specs.Rules.{breaks_function, is_beyond, has_outside, names_nothing, has_other_kind, mixes_kinds, jumps_wrongly, is_final, runs_out, misfits, misfits_params, early_rule, or_order, instruction_rule, line_rule, function_rule, rule_broken}
+use Rattle.mid_code.specs.Rules.{breaks_function, is_beyond, has_outside, names_nothing, has_other_kind, mixes_kinds, jumps_wrongly, is_final, runs_out, misfits, misfits_params, early_rule, instruction_rule, line_rule, function_rule, rule_broken}
 use Rattle.mid_code.specs.Valid.{IsValid}
 use Rattle.mid_code.specs.Classes.{site_count, all_sites, protected_functions}
 use Rattle.mid_code.specs.Pairs.{IsOfFirstForm, HasSites}

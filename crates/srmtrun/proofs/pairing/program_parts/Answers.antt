@@ -1,4 +1,4 @@
-use Rattle.std.proofs.Common.{◌≡◌, ◌≤◌, length, sym, ap, arith}
+use Rattle.std.proofs.Common.{◌≤◌, length, sym, ap, arith}
 use Rattle.std.proofs.lemmas.List.{length-take-le}
 use Rattle.mid_code.proofs.Naming.{whole}
 use Rattle.srmtrun.proofs.pairing.program_parts.Goals as goal
