@@ -12,6 +12,7 @@ use sqlite_items::Items;
 use srmt_base::{Args, Event, Limits, Op, SourceEnd, Trap};
 use srmt_outside::{Failed, MemOutlet, Outlet};
 use std::alloc::{AllocError, Global};
+use std::process::Abort;
 use std::test::Fail;
 
 /// The first number of an object of the binary file, as an address.
@@ -259,91 +260,111 @@ fn play(
     Ok(true)
 }
 
-#[test]
-fn calls_across_the_files(rt: HostRuntime) -> Result<(), Fail> {
-    let one = BinaryStep::Returned(1);
-    let rows: [(u64, u32, &[(Turn, BinaryStep)], &[Event]); 9] = [
-        (
-            100,
-            10,
-            &[
-                (enter(4, &[3, 2]), calls(2, &[0])),
-                (enter(3, &[65]), one),
-                (Turn::Give(1), calls(2, &[1])),
-                (enter(3, &[66]), one),
-                (Turn::Give(1), calls(2, &[2])),
-                (enter(3, &[67]), one),
-                (Turn::Give(1), BinaryStep::Returned(3)),
-            ],
-            &[Event::Byte(65), Event::Byte(66), Event::Byte(67)],
-        ),
-        (
-            3,
-            2,
-            &[(enter(4, &[1, 2]), calls(2, &[0])), (enter(3, &[65]), one)],
-            &[Event::Byte(65)],
-        ),
-        (
-            2,
-            2,
-            &[
-                (enter(4, &[1, 2]), calls(2, &[0])),
-                (enter(3, &[65]), traps(Trap::Turns, 2_000_100)),
-            ],
-            &[],
-        ),
-        (
-            2,
-            1,
-            &[
-                (enter(4, &[1, 2]), calls(2, &[0])),
-                (enter(3, &[65]), traps(Trap::Depth, 2_000_100)),
-            ],
-            &[],
-        ),
-        (
-            100,
-            10,
-            &[(enter(5, &[263]), BinaryStep::Ended(SourceEnd::Exit(7)))],
-            &[Event::Exit(7)],
-        ),
-        (
-            100,
-            10,
-            &[(enter(6, &[1]), traps(Trap::DivideByZero, 2_000_400))],
-            &[],
-        ),
-        (
-            100,
-            10,
-            &[
-                (enter(4, &[1, 2]), calls(2, &[0])),
-                (enter(7, &[66]), calls(2, &[1])),
-                (Turn::Give(8), BinaryStep::Returned(8)),
-                (Turn::Give(9), BinaryStep::Returned(9)),
-            ],
-            &[Event::Byte(66)],
-        ),
-        (
-            100,
-            10,
-            &[(enter(8, &[1]), traps(Trap::Depth, 2_000_600))],
-            &[],
-        ),
-        (100, 10, &[(enter(9, &[1]), BinaryStep::Returned(9))], &[]),
-    ];
-    for (turns, depth, script, events) in rows {
+/// The limits of a run, what is done to the machine with what it answers each time, and all events.
+#[derive(Clone, Copy)]
+struct Case<'a> {
+    turns: u64,
+    depth: u32,
+    script: &'a [(Turn, BinaryStep)],
+    events: &'a [Event],
+}
+
+fn plays<'a>(
+    turns: u64,
+    depth: u32,
+    script: &'a [(Turn, BinaryStep)],
+    events: &'a [Event],
+) -> Case<'a> {
+    Case {
+        turns,
+        depth,
+        script,
+        events,
+    }
+}
+
+/// Plays each case, and compares.
+fn check(rt: &impl Abort, alloc: Global, cases: &[Case]) -> Result<(), AllocError> {
+    for case in cases {
+        let Case { turns, depth, .. } = *case;
+        assert!(rt; 1 <= turns && turns <= 1_000 && 1 <= depth && depth <= 1_000);
         let limits = Limits {
             turns,
             depth,
             cells: 10,
         };
-        assert!(rt; 1 <= turns && turns <= 1_000 && 1 <= depth && depth <= 1_000);
-        let mut outlet = MemOutlet::with_room(rt.alloc(), 4)?;
-        let played = play(rt.alloc(), limits, script, &mut outlet)?;
-        assert!(rt; played, "{script:?}");
-        assert_eq!(rt; outlet.events(), events, "{script:?}");
+        let mut outlet = MemOutlet::with_room(alloc, 4)?;
+        let played = play(alloc, limits, case.script, &mut outlet)?;
+        assert!(rt; played, "{:?}", case.script);
+        assert_eq!(rt; outlet.events(), case.events, "{:?}", case.script);
     }
+    Ok(())
+}
+
+#[test]
+fn calls_across_the_files(rt: HostRuntime) -> Result<(), Fail> {
+    let one = BinaryStep::Returned(1);
+    let each = [
+        (enter(4, &[3, 2]), calls(2, &[0])),
+        (enter(3, &[65]), one),
+        (Turn::Give(1), calls(2, &[1])),
+        (enter(3, &[66]), one),
+        (Turn::Give(1), calls(2, &[2])),
+        (enter(3, &[67]), one),
+        (Turn::Give(1), BinaryStep::Returned(3)),
+    ];
+    let nested = [
+        (enter(4, &[1, 2]), calls(2, &[0])),
+        (enter(7, &[66]), calls(2, &[1])),
+        (Turn::Give(8), BinaryStep::Returned(8)),
+        (Turn::Give(9), BinaryStep::Returned(9)),
+    ];
+    let letters = [Event::Byte(65), Event::Byte(66), Event::Byte(67)];
+    check(
+        &rt,
+        rt.alloc(),
+        &[
+            plays(100, 10, &each, &letters),
+            plays(100, 10, &nested, &[Event::Byte(66)]),
+        ],
+    )?;
+    Ok(())
+}
+
+#[test]
+fn budgets_at_an_entry(rt: HostRuntime) -> Result<(), Fail> {
+    let out = (enter(4, &[1, 2]), calls(2, &[0]));
+    let enough = [out, (enter(3, &[65]), BinaryStep::Returned(1))];
+    let no_turn = [out, (enter(3, &[65]), traps(Trap::Turns, 2_000_100))];
+    let too_deep = [out, (enter(3, &[65]), traps(Trap::Depth, 2_000_100))];
+    let endless = [(enter(8, &[1]), traps(Trap::Depth, 2_000_600))];
+    check(
+        &rt,
+        rt.alloc(),
+        &[
+            plays(3, 2, &enough, &[Event::Byte(65)]),
+            plays(2, 2, &no_turn, &[]),
+            plays(2, 1, &too_deep, &[]),
+            plays(100, 10, &endless, &[]),
+        ],
+    )?;
+    Ok(())
+}
+
+#[test]
+fn ends_of_binary_functions(rt: HostRuntime) -> Result<(), Fail> {
+    let exits = [(enter(5, &[263]), BinaryStep::Ended(SourceEnd::Exit(7)))];
+    let divides = [(enter(6, &[1]), traps(Trap::DivideByZero, 2_000_400))];
+    let returns = [(enter(9, &[1]), BinaryStep::Returned(9))];
+    check(
+        &rt,
+        rt.alloc(),
+        &[
+            plays(100, 10, &exits, &[Event::Exit(7)]),
+            plays(100, 10, &divides, &[]),
+            plays(100, 10, &returns, &[]),
+        ],
+    )?;
     Ok(())
 }
 
