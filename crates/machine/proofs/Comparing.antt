@@ -5,7 +5,7 @@ use Rattle.std.proofs.lemmas.Bool.{le-ltb, not-false, not-true}
 use Rattle.mid_code.specs.Machine.{passed, register}
 use Rattle.std.specs.Prelude.{not}
 use Rattle.std.proofs.Math.ListN.{get_or-map}
-use Rattle.machine.specs.declared.thread_end.ThreadEnd.TheVariants.{Echo}
+use Rattle.verdicts.specs.declared.thread_end.ThreadEnd.TheVariants.{Echo}
 use Rattle.machine.specs.Side.{SideState, Outcome, Ended, Went}
 use Rattle.machine.specs.Steps.{operands}
 use Rattle.machine.specs.Leading.{compared, heard_by}

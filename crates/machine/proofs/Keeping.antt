@@ -17,7 +17,7 @@ use Rattle.mid_code.specs.Pairs.{HasSites}
 use Rattle.mid_code.specs.Machine.{Machine, Does, Goes, Traps, Reaches, Lost, act, register}
 use Rattle.word_stream.specs.Exchange.{ack_words}
 use Rattle.world.specs.World.{WorldState, Asked, ask}
-use Rattle.machine.specs.declared.thread_end.ThreadEnd.TheVariants.{Echo, Mismatch}
+use Rattle.verdicts.specs.declared.thread_end.ThreadEnd.TheVariants.{Echo, Mismatch}
 use Rattle.machine.specs.Side.{SideState, Meet, Plain, Got, Closed, Failed, Outcome, Went, Ended}
 use Rattle.machine.specs.Steps.{operands, passed_on, performed}
 use Rattle.machine.specs.Leading.{compared, heard_by, awaits, act_request, acts, lead_op, lead_at, lead_next}

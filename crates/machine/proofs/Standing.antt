@@ -19,8 +19,8 @@ use Rattle.mid_code.proofs.Values.{found_one}
 use Rattle.mid_code.specs.Machine.{register}
 use Rattle.world.specs.World.{WorldState, ask}
 use Rattle.word_stream.specs.declared.request.Request.{Request}
-use Rattle.machine.specs.declared.thread_end.Stepped.{Stepped}
-use Rattle.machine.specs.declared.thread_end.Stepped.TheVariants.{Went as Made, NotYet, Ended as MadeLast}
+use Rattle.machine.specs.declared.stepped.Stepped.{Stepped}
+use Rattle.machine.specs.declared.stepped.Stepped.TheVariants.{Went as Made, NotYet, Ended as MadeLast}
 use Rattle.machine.specs.Side.{SideState, Meet, Plain, Got, Closed, Failed, Went}
 use Rattle.machine.specs.Steps.{side_op, takes, may_send, takes_at, may_send_at, operands, IsPerformed}
 use Rattle.machine.specs.Leading.{act_request, acts, lead_op, lead_at, lead_next}

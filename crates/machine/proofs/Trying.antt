@@ -9,9 +9,9 @@ use Rattle.word_stream.proofs.Spelled.{no_words}
 use Rattle.world.specs.World.{WorldState, Asked, stopped}
 use Rattle.machine.specs.declared.link_call.Taken.TheVariants.{Word}
 use Rattle.machine.specs.declared.link_call.LastCall.TheVariants.{Room, Take}
-use Rattle.machine.specs.declared.thread_end.ThreadEnd.TheVariants.{Echo, WriteFault}
-use Rattle.machine.specs.declared.thread_end.Stepped.{Stepped}
-use Rattle.machine.specs.declared.thread_end.Stepped.TheVariants.{Went as Made, NotYet, Ended as MadeLast}
+use Rattle.verdicts.specs.declared.thread_end.ThreadEnd.TheVariants.{Echo, WriteFault}
+use Rattle.machine.specs.declared.stepped.Stepped.{Stepped}
+use Rattle.machine.specs.declared.stepped.Stepped.TheVariants.{Went as Made, NotYet, Ended as MadeLast}
 use Rattle.machine.specs.Side.{SideState, Meet, Plain, Got, Closed, Failed, Outcome, Ended}
 use Rattle.machine.specs.Steps.{quiet, sends, step_room}
 use Rattle.machine.specs.Leading.{answered, acts, awaits, compared, heard_by}

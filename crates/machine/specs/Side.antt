@@ -6,7 +6,7 @@ use Rattle.mid_code.specs.declared.program.MidProgram.{MidProgram}
 use Rattle.mid_code.specs.Machine.{Machine}
 use Rattle.mid_code.specs.Start.{started_machine}
 use Rattle.world.specs.World.{WorldState}
-use Rattle.machine.specs.declared.thread_end.ThreadEnd.{ThreadEnd}
+use Rattle.verdicts.specs.declared.thread_end.ThreadEnd.{ThreadEnd}
 
 -- its machine, whose places are those of the side's own version, and the acknowledgements that it
 -- has taken so far where it awaits them

@@ -12,7 +12,7 @@ use Rattle.mid_code.specs.declared.version.Version.{Version}
 use Rattle.mid_code.specs.Machine.{Does, Goes, Traps, Reaches, Lost, register, passed}
 use Rattle.mid_code.specs.Versions.{leading_versions, trailing_versions, version_at}
 use Rattle.world.specs.World.{WorldState}
-use Rattle.machine.specs.declared.thread_end.ThreadEnd.TheVariants.{Trap}
+use Rattle.verdicts.specs.declared.thread_end.ThreadEnd.TheVariants.{Trap}
 use Rattle.machine.specs.Side.{SideState, Outcome, Went, Ended, StepGives}
 
 -- the versions that a side runs

@@ -10,7 +10,7 @@ use Rattle.mid_code.specs.declared.version.VersionLine.{VersionLine}
 use Rattle.mid_code.specs.Machine.{act, register}
 use Rattle.word_stream.specs.Exchange.{ack_words}
 use Rattle.world.specs.World.{WorldState}
-use Rattle.machine.specs.declared.thread_end.ThreadEnd.TheVariants.{Exit as ExitEnd, Mismatch, PeerEnded}
+use Rattle.verdicts.specs.declared.thread_end.ThreadEnd.TheVariants.{Exit as ExitEnd, Mismatch, PeerEnded}
 use Rattle.machine.specs.Side.{SideState, Meet, Plain, Got, Closed, Failed, Outcome, Went, Ended, StepGives}
 use Rattle.machine.specs.Steps.{side_op, operands, passed_on, performed, quiet, sends}
 

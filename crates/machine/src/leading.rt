@@ -14,12 +14,13 @@ ghost use Rattle.machine.specs.Fits.{FitsAfter, LivesAfter, SideFits};
 use crate::link::Link;
 use crate::link_call::Taken;
 use crate::machine::Machine;
+use crate::stepped::Stepped;
 use crate::steps::{STEP_ROOM, perform, send_operands};
-use crate::thread_end::{Stepped, ThreadEnd};
 use mid_code::{Asks, Pair, VersionOp};
 use sqlite_items::Items;
 use srmt_base::{Kind, Site, Word, pack};
 use srmt_outside::Outlet;
+use verdicts::ThreadEnd;
 use word_stream::{Request, Response};
 use world::World;
 

@@ -13,10 +13,10 @@ mod link;
 mod link_call;
 mod machine;
 mod one_step;
+mod stepped;
 mod steps;
 #[cfg(test)]
 mod tests;
-mod thread_end;
 mod trailing;
 
 pub use leading::lead_step;
@@ -24,5 +24,6 @@ pub use link::Link;
 pub use link_call::{LastCall, Taken};
 pub use machine::Machine;
 pub use one_step::OneStep;
-pub use thread_end::{Stepped, ThreadEnd};
+pub use stepped::Stepped;
 pub use trailing::trail_step;
+pub use verdicts::ThreadEnd;

@@ -8,7 +8,7 @@ ghost use Rattle.machine.specs.Tried.{shown, Comes, Sends, TriesBy};
 
 use crate::link::Link;
 use crate::machine::Machine;
-use crate::thread_end::Stepped;
+use crate::stepped::Stepped;
 use mid_code::Mid;
 use sqlite_items::Items;
 use srmt_base::{Kind, Site, convert, pack};

@@ -13,10 +13,11 @@ ghost use Rattle.machine.specs.Fits.{FitsAfter, SideFits};
 use crate::link::Link;
 use crate::link_call::Taken;
 use crate::machine::Machine;
+use crate::stepped::Stepped;
 use crate::steps::{perform, send_operands};
-use crate::thread_end::{Stepped, ThreadEnd};
 use mid_code::{Pair, VersionOp};
 use srmt_base::{Kind, Site, Word, pack};
+use verdicts::ThreadEnd;
 
 // Compares a word with the side's own.
 fn compare(m: &mut Machine, own: Word, word: Word) -> Stepped

@@ -8,9 +8,9 @@ use Rattle.world.specs.World.{WorldState}
 use Rattle.machine.specs.declared.link_call.Taken.{Taken}
 use Rattle.machine.specs.declared.link_call.LastCall.TheVariants.{Nothing}
 use Rattle.machine.specs.declared.one_step.OneStep.{OneStep}
-use Rattle.machine.specs.declared.thread_end.ThreadEnd.{ThreadEnd}
-use Rattle.machine.specs.declared.thread_end.Stepped.{Stepped}
-use Rattle.machine.specs.declared.thread_end.Stepped.TheVariants.{Went as Made, NotYet, Ended as MadeLast}
+use Rattle.verdicts.specs.declared.thread_end.ThreadEnd.{ThreadEnd}
+use Rattle.machine.specs.declared.stepped.Stepped.{Stepped}
+use Rattle.machine.specs.declared.stepped.Stepped.TheVariants.{Went as Made, NotYet, Ended as MadeLast}
 use Rattle.machine.specs.Origin.{Given}
 use Rattle.machine.specs.OneStep.{made_of, sent_of, taken_of, gone_of, asks_of, last_of}
 use Rattle.machine.specs.Side.{SideState, Outcome, Went, Ended}

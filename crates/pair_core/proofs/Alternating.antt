@@ -7,14 +7,14 @@ use Rattle.srmt_base.specs.declared.side.Side.TheVariants.{Lead, Trail}
 use Rattle.srmt_outside.specs.Count.{Rose}
 use Rattle.mid_code.specs.declared.program.MidProgram.{MidProgram}
 use Rattle.mid_code.specs.Pairs.{HasSites}
-use Rattle.machine.specs.declared.thread_end.Stepped.{Stepped}
-use Rattle.machine.specs.declared.thread_end.Stepped.TheVariants.{Went as Made, NotYet, Ended as MadeLast}
+use Rattle.machine.specs.declared.stepped.Stepped.{Stepped}
+use Rattle.machine.specs.declared.stepped.Stepped.TheVariants.{Went as Made, NotYet, Ended as MadeLast}
 use Rattle.machine.specs.Side.{SideState, Outcome, Went, Ended, opening as opening_side}
 use Rattle.machine.proofs.Fitting.{fits_opening}
 use Rattle.pair_core.specs.Duo.{DuoState, view_of, Turned, turn_at, turn_of, Reached}
 use Rattle.pair_core.specs.Laws.{CanGo}
 use Rattle.pair_core.specs.Turns.{DuoFits, IsCountable, Turns}
-use Rattle.pair_core.specs.declared.verdict.Ran.{Ran}
+use Rattle.verdicts.specs.declared.verdict.Ran.{Ran}
 use Rattle.pair_core.specs.Answer.{IsAnswer, FollowsIdeal}
 use Rattle.pair_core.specs.InTurn.{other_side, next_turn, BothOver, IsRan, IsOpening}
 use Rattle.pair_core.proofs.Answering.{is_answer, follows_ideal}

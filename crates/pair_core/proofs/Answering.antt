@@ -8,10 +8,10 @@ use Rattle.srmt_base.specs.Trap.{trap_code}
 use Rattle.mid_code.specs.declared.program.MidProgram.{MidProgram}
 use Rattle.mid_code.specs.Pairs.{HasSites}
 use Rattle.world.specs.Ideal.{IsIdeal}
-use Rattle.machine.specs.declared.thread_end.ThreadEnd.{ThreadEnd}
-use Rattle.machine.specs.declared.thread_end.ThreadEnd.TheVariants.{WriteFault}
+use Rattle.verdicts.specs.declared.thread_end.ThreadEnd.{ThreadEnd}
+use Rattle.verdicts.specs.declared.thread_end.ThreadEnd.TheVariants.{WriteFault}
 use Rattle.machine.specs.Side.{Ended}
-use Rattle.pair_core.specs.Verdict.{verdict_of_ends, exit_verdict, trap_verdict}
+use Rattle.verdicts.specs.Verdict.{verdict_of_ends, exit_verdict, trap_verdict}
 use Rattle.pair_core.specs.Duo.{DuoState, Reached}
 use Rattle.pair_core.specs.Laws.{end_as, AsIdeal, Sound}
 use Rattle.pair_core.specs.Answer.{IsAnswer, verdict_as, FollowsIdeal, ran_of}

@@ -10,7 +10,7 @@ use Rattle.word_stream.specs.Exchange.{checks_of}
 use Rattle.world.specs.World.{ask}
 use Rattle.world.specs.Requests.{Wants, Runs, Dies, Requests, Lost, wants}
 use Rattle.world.specs.Ideal.{Ended as PlaceEnded, ideal}
-use Rattle.machine.specs.declared.thread_end.ThreadEnd.TheVariants.{PeerEnded, WriteFault}
+use Rattle.verdicts.specs.declared.thread_end.ThreadEnd.TheVariants.{PeerEnded, WriteFault}
 use Rattle.machine.specs.Side.{SideState, Went, Ended}
 use Rattle.machine.specs.Steps.{side_op, takes_at, may_send_at}
 use Rattle.pair_core.specs.History.{Past}

@@ -16,7 +16,7 @@ use Rattle.mid_code.specs.declared.version.VersionOp.{VersionOp}
 use Rattle.mid_code.specs.Versions.{leading_ops, trailing_ops}
 use Rattle.world.specs.Ideal.{Ended as PlaceEnded, ideal}
 use Rattle.mid_code.proofs.Starting.{with_main}
-use Rattle.machine.specs.declared.thread_end.ThreadEnd.TheVariants.{WriteFault}
+use Rattle.verdicts.specs.declared.thread_end.ThreadEnd.TheVariants.{WriteFault}
 use Rattle.machine.specs.Side.{SideState, Meet, Plain, Got, Closed, Failed, Outcome, Went, Ended, StepGives}
 use Rattle.machine.specs.Steps.{side_op, takes_at}
 use Rattle.machine.specs.Meets.{MeetsBy, next_of, CanMeet}

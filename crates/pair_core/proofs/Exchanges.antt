@@ -10,7 +10,7 @@ use Rattle.word_stream.specs.declared.request.Response.{Response}
 use Rattle.word_stream.specs.Exchange.{is_guarded, response_words, checks_of, acks_of}
 use Rattle.world.specs.World.{WorldState, ask, stopped}
 use Rattle.world.specs.Requests.{Requests, wants, Back, Over, resume}
-use Rattle.machine.specs.declared.thread_end.ThreadEnd.TheVariants.{PeerEnded, WriteFault}
+use Rattle.verdicts.specs.declared.thread_end.ThreadEnd.TheVariants.{PeerEnded, WriteFault}
 use Rattle.machine.specs.Side.{Plain, Got, Closed, Failed, Went, Ended}
 use Rattle.machine.specs.Steps.{side_op, takes_at, may_send_at, passed_on}
 use Rattle.machine.specs.Leading.{lead_next}

@@ -7,7 +7,7 @@ use Rattle.mid_code.specs.declared.version.VersionOp.{VersionOp}
 use Rattle.mid_code.specs.declared.version.VersionOp.TheVariants.{Copied, Ask, Await, Act, Check, Ack, End}
 use Rattle.mid_code.specs.declared.version.VersionLine.{VersionLine}
 use Rattle.world.specs.World.{WorldState}
-use Rattle.machine.specs.declared.thread_end.Stepped.TheVariants.{NotYet}
+use Rattle.machine.specs.declared.stepped.Stepped.TheVariants.{NotYet}
 use Rattle.machine.specs.Side.{SideState, Meet, Plain, Closed, Outcome, Went, Ended, StepGives}
 use Rattle.machine.specs.Steps.{side_op, takes_at, may_send_at, step_room}
 use Rattle.machine.specs.Trailing.{trail_op, trail_at, trail_next}

@@ -36,7 +36,7 @@ use Rattle.word_stream.specs.declared.request.Request.TheVariants.{Put as PutAsk
 use Rattle.word_stream.specs.declared.request.Response.{Response}
 use Rattle.word_stream.specs.Exchange.{request_site, operands_of, is_guarded, checks_of, acks_of}
 use Rattle.world.specs.Requests.{Runs, Dies, Requests, Lost, next_site, wants_by, wants, Back, Over, resume_by, resume}
-use Rattle.machine.specs.declared.thread_end.ThreadEnd.TheVariants.{Exit as ExitEnd}
+use Rattle.verdicts.specs.declared.thread_end.ThreadEnd.TheVariants.{Exit as ExitEnd}
 use Rattle.machine.specs.Side.{SideState, Went, Ended}
 use Rattle.machine.specs.Steps.{passed_on}
 use Rattle.machine.specs.Leading.{act_request, answered}

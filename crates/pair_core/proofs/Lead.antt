@@ -13,7 +13,7 @@ use Rattle.word_stream.specs.Exchange.{checks_of, acks_of}
 use Rattle.world.specs.World.{WorldState, ask, stopped}
 use Rattle.world.specs.Requests.{Wants, Runs, Dies, Requests, Lost, wants, Resumed, Back, Over, resume}
 use Rattle.world.specs.Ideal.{Here, Ended as PlaceEnded, IdealState, place_by, ideal}
-use Rattle.machine.specs.declared.thread_end.ThreadEnd.TheVariants.{WriteFault}
+use Rattle.verdicts.specs.declared.thread_end.ThreadEnd.TheVariants.{WriteFault}
 use Rattle.machine.specs.Side.{SideState, Meet, Plain, Got, Closed, Failed, Outcome, Went, Ended, StepGives}
 use Rattle.machine.specs.Meets.{next_of, CanMeet}
 use Rattle.pair_core.specs.History.{Past, word_met, grown}

@@ -18,7 +18,7 @@ use Rattle.word_stream.proofs.Spelled.{no_words}
 use Rattle.world.specs.World.{WorldState, ask}
 use Rattle.world.specs.Requests.{Wants, Runs, Dies, Requests, Lost, wants, Resumed, Back, Over, resume}
 use Rattle.world.specs.Ideal.{ideal}
-use Rattle.machine.specs.declared.thread_end.ThreadEnd.TheVariants.{PeerEnded, WriteFault}
+use Rattle.verdicts.specs.declared.thread_end.ThreadEnd.TheVariants.{PeerEnded, WriteFault}
 use Rattle.machine.specs.Side.{SideState, Meet, Plain, Got, Closed, Failed, Outcome, Went, Ended, StepGives}
 use Rattle.machine.specs.Steps.{versions_of, side_op, takes_at}
 use Rattle.machine.specs.Meets.{MeetsBy, next_of, CanMeet}

@@ -6,8 +6,8 @@ use Rattle.srmt_base.specs.declared.trap.SourceEnd.{SourceEnd}
 use Rattle.mid_code.specs.declared.program.MidProgram.{MidProgram}
 use Rattle.mid_code.specs.Pairs.{HasSites}
 use Rattle.world.specs.Ideal.{Ended as PlaceEnded, ideal, IsIdeal}
-use Rattle.machine.specs.declared.thread_end.ThreadEnd.{ThreadEnd}
-use Rattle.machine.specs.declared.thread_end.ThreadEnd.TheVariants.{PeerEnded, WriteFault}
+use Rattle.verdicts.specs.declared.thread_end.ThreadEnd.{ThreadEnd}
+use Rattle.verdicts.specs.declared.thread_end.ThreadEnd.TheVariants.{PeerEnded, WriteFault}
 use Rattle.machine.specs.Side.{Ended}
 use Rattle.pair_core.specs.Fit.{IsPrefix, IsOver, Fit}
 use Rattle.pair_core.specs.Duo.{DuoState, is_over, Entry, scheduled, Reached}

@@ -20,7 +20,7 @@ use Rattle.word_stream.specs.declared.request.Response.{Response}
 use Rattle.word_stream.specs.Exchange.{checks_of, acks_of}
 use Rattle.world.specs.World.{WorldState, ask, stopped}
 use Rattle.world.specs.Requests.{Runs, next_site, wants, Over, resume}
-use Rattle.machine.specs.declared.thread_end.ThreadEnd.TheVariants.{Echo, Mismatch, PeerEnded, WriteFault}
+use Rattle.verdicts.specs.declared.thread_end.ThreadEnd.TheVariants.{Echo, Mismatch, PeerEnded, WriteFault}
 use Rattle.machine.specs.Side.{SideState, Plain, Got, Closed, Failed, Outcome, Went, Ended, StepGives}
 use Rattle.machine.specs.Steps.{side_op, takes_at, may_send_at, passed_on, performed, quiet}
 use Rattle.machine.specs.Leading.{lead_at, lead_next, acts}

@@ -13,7 +13,7 @@ use Rattle.word_stream.proofs.Spelled.{no_words}
 use Rattle.world.specs.World.{ask}
 use Rattle.world.specs.Requests.{Wants, Runs, Dies, Requests, Lost, wants, Resumed, Back, Over, resume}
 use Rattle.world.specs.Ideal.{Here, Owed, Ended as PlaceEnded, IdealState, place_by, words_owed, owed_next, ideal}
-use Rattle.machine.specs.declared.thread_end.ThreadEnd.TheVariants.{PeerEnded}
+use Rattle.verdicts.specs.declared.thread_end.ThreadEnd.TheVariants.{PeerEnded}
 use Rattle.machine.specs.Side.{SideState, Meet, Plain, Got, Closed, Failed, Outcome, Went, Ended, StepGives}
 use Rattle.machine.specs.Trailing.{trail_next}
 use Rattle.machine.specs.Meets.{next_of, CanMeet}

@@ -7,11 +7,11 @@ use Rattle.srmt_base.specs.declared.trap.SourceEnd.TheVariants.{Exit as SourceEx
 use Rattle.srmt_base.specs.Trap.{is_budget}
 use Rattle.mid_code.specs.declared.program.MidProgram.{MidProgram}
 use Rattle.world.specs.Ideal.{IsIdeal}
-use Rattle.machine.specs.declared.thread_end.ThreadEnd.{ThreadEnd}
-use Rattle.pair_core.specs.declared.verdict.Ran.{Ran}
-use Rattle.pair_core.specs.declared.verdict.Verdict.{Verdict}
-use Rattle.pair_core.specs.declared.verdict.Verdict.TheVariants.{Exit as ExitVerdict, WriteFault as FaultVerdict}
-use Rattle.pair_core.specs.Verdict.{verdict_of_ends, stopped_by}
+use Rattle.verdicts.specs.declared.thread_end.ThreadEnd.{ThreadEnd}
+use Rattle.verdicts.specs.declared.verdict.Ran.{Ran}
+use Rattle.verdicts.specs.declared.verdict.Verdict.{Verdict}
+use Rattle.verdicts.specs.declared.verdict.Verdict.TheVariants.{Exit as ExitVerdict, WriteFault as FaultVerdict}
+use Rattle.verdicts.specs.Verdict.{verdict_of_ends, stopped_by}
 use Rattle.pair_core.specs.Fit.{EndedFit}
 use Rattle.pair_core.specs.Laws.{IdealEvents}
 use Rattle.pair_core.specs.Duo.{DuoState}

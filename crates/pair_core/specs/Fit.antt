@@ -3,8 +3,8 @@ use Rattle.std.specs.Prelude.{◌≡◌, ℕ, List, ◌++◌}
 use Rattle.srmt_base.specs.declared.limits.Limits.{Limits}
 use Rattle.srmt_base.specs.declared.side.Side.TheVariants.{Lead, Trail}
 use Rattle.mid_code.specs.declared.program.MidProgram.{MidProgram}
-use Rattle.machine.specs.declared.thread_end.ThreadEnd.{ThreadEnd}
-use Rattle.machine.specs.declared.thread_end.ThreadEnd.TheVariants.{PeerEnded}
+use Rattle.verdicts.specs.declared.thread_end.ThreadEnd.{ThreadEnd}
+use Rattle.verdicts.specs.declared.thread_end.ThreadEnd.TheVariants.{PeerEnded}
 use Rattle.machine.specs.Side.{Outcome, Ended}
 use Rattle.pair_core.specs.History.{Past, HasPast}
 

@@ -4,11 +4,11 @@ use Rattle.srmt_base.specs.declared.limits.Limits.{Limits}
 use Rattle.srmt_base.specs.declared.side.Side.{Side}
 use Rattle.srmt_base.specs.declared.side.Side.TheVariants.{Lead, Trail}
 use Rattle.mid_code.specs.declared.program.MidProgram.{MidProgram}
-use Rattle.machine.specs.declared.thread_end.ThreadEnd.{ThreadEnd}
-use Rattle.machine.specs.declared.thread_end.Stepped.{Stepped}
-use Rattle.machine.specs.declared.thread_end.Stepped.TheVariants.{Went, NotYet, Ended as MadeLast}
+use Rattle.verdicts.specs.declared.thread_end.ThreadEnd.{ThreadEnd}
+use Rattle.machine.specs.declared.stepped.Stepped.{Stepped}
+use Rattle.machine.specs.declared.stepped.Stepped.TheVariants.{Went, NotYet, Ended as MadeLast}
 use Rattle.machine.specs.Side.{Ended}
-use Rattle.pair_core.specs.declared.verdict.Ran.{Ran}
+use Rattle.verdicts.specs.declared.verdict.Ran.{Ran}
 use Rattle.pair_core.specs.Fit.{IsOver}
 use Rattle.pair_core.specs.Duo.{DuoState, opening_duo}
 use Rattle.pair_core.specs.Answer.{ran_of}

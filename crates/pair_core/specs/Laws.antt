@@ -8,9 +8,9 @@ use Rattle.srmt_base.specs.declared.trap.SourceEnd.{SourceEnd}
 use Rattle.srmt_base.specs.declared.trap.SourceEnd.TheVariants.{Exit as SourceExit, Trap as SourceTrap}
 use Rattle.mid_code.specs.declared.program.MidProgram.{MidProgram}
 use Rattle.world.specs.Ideal.{ideal, IsIdeal}
-use Rattle.machine.specs.declared.thread_end.ThreadEnd.{ThreadEnd}
-use Rattle.machine.specs.declared.thread_end.ThreadEnd.TheVariants.{Exit, Trap, Mismatch, Echo, WriteFault}
-use Rattle.machine.specs.declared.thread_end.Stepped.TheVariants.{NotYet}
+use Rattle.verdicts.specs.declared.thread_end.ThreadEnd.{ThreadEnd}
+use Rattle.verdicts.specs.declared.thread_end.ThreadEnd.TheVariants.{Exit, Trap, Mismatch, Echo, WriteFault}
+use Rattle.machine.specs.declared.stepped.Stepped.TheVariants.{NotYet}
 use Rattle.machine.specs.Side.{Outcome, Went, Ended}
 use Rattle.pair_core.specs.Fit.{IsPrefix, IsOver, Fit}
 use Rattle.pair_core.specs.Duo.{DuoState, view_of, turn_of, Entry}

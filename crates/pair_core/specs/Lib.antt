@@ -1,4 +1,3 @@
-pub mod Verdict
 pub mod History
 pub mod Fit
 pub mod Duo

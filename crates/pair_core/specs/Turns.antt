@@ -9,9 +9,9 @@ use Rattle.machine.specs.declared.link_call.Taken.{Taken}
 use Rattle.machine.specs.declared.link_call.Taken.TheVariants.{Word, NotYet as NoWordYet, Closed}
 use Rattle.machine.specs.declared.link_call.LastCall.{LastCall}
 use Rattle.machine.specs.declared.link_call.LastCall.TheVariants.{Nothing, Room, Take}
-use Rattle.machine.specs.declared.thread_end.ThreadEnd.{ThreadEnd}
-use Rattle.machine.specs.declared.thread_end.Stepped.{Stepped}
-use Rattle.machine.specs.declared.thread_end.Stepped.TheVariants.{Went as Made, NotYet, Ended as MadeLast}
+use Rattle.verdicts.specs.declared.thread_end.ThreadEnd.{ThreadEnd}
+use Rattle.machine.specs.declared.stepped.Stepped.{Stepped}
+use Rattle.machine.specs.declared.stepped.Stepped.TheVariants.{Went as Made, NotYet, Ended as MadeLast}
 use Rattle.machine.specs.Side.{SideState, Outcome, Went, Ended}
 use Rattle.machine.specs.Fits.{SideFits}
 use Rattle.pair_core.specs.Duo.{DuoState, turn_of}

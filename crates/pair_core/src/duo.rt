@@ -5,12 +5,10 @@ ghost use Rattle.srmt_outside.specs.Count.{Rose};
 ghost use Rattle.srmt_outside.specs.Told.{Appends};
 ghost use Rattle.machine.specs.OneStep.{last_of, sent_of};
 ghost use Rattle.machine.specs.Side.{Ended};
-ghost use Rattle.machine.specs.declared.thread_end.ThreadEnd.TheVariants.{WriteFault};
+ghost use Rattle.verdicts.specs.declared.thread_end.ThreadEnd.TheVariants.{WriteFault};
 ghost use Rattle.pair_core.specs.Duo.{opening_duo, put_on};
 ghost use Rattle.pair_core.specs.Turns.{end_of_step, has_waited, left_by, CountsOn, DuoFits, IsCountable, Turns};
 
-use crate::judging::verdict_of;
-use crate::verdict::Ran;
 use crate::way::Way;
 use machine::{LastCall, Machine, OneStep, Stepped, Taken, ThreadEnd, lead_step, trail_step};
 use mid_code::Pair;
@@ -18,6 +16,7 @@ use srmt_base::{Limits, Side};
 use srmt_outside::Outlet;
 use std::alloc::{AllocError, Global};
 use std::marker::Model;
+use verdicts::{Ran, verdict_of};
 use world::World;
 
 /// Both sides of a pair in one thread, with the world and all words on the way.

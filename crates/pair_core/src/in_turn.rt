@@ -3,21 +3,21 @@ ghost use Rattle.srmt_base.specs.declared.event.Event.{Event};
 ghost use Rattle.srmt_base.specs.declared.limits.Limits.{Limits};
 ghost use Rattle.srmt_outside.specs.Count.{Rose};
 ghost use Rattle.srmt_outside.specs.Told.{Appends};
-ghost use Rattle.machine.specs.declared.thread_end.ThreadEnd.TheVariants.{WriteFault};
-ghost use Rattle.machine.specs.declared.thread_end.Stepped.{Stepped};
+ghost use Rattle.verdicts.specs.declared.thread_end.ThreadEnd.TheVariants.{WriteFault};
+ghost use Rattle.machine.specs.declared.stepped.Stepped.{Stepped};
 ghost use Rattle.machine.specs.Side.{Ended};
-ghost use Rattle.pair_core.specs.declared.verdict.Verdict.TheVariants.{WriteFault as FaultVerdict};
+ghost use Rattle.verdicts.specs.declared.verdict.Verdict.TheVariants.{WriteFault as FaultVerdict};
 ghost use Rattle.pair_core.specs.Duo.{opening_duo};
 ghost use Rattle.pair_core.specs.Answer.{IsAnswer, FollowsIdeal};
 ghost use Rattle.pair_core.specs.Turns.{DuoFits, IsCountable, Turns};
 ghost use Rattle.pair_core.specs.InTurn.{next_turn, IsOpening};
 
 use crate::duo::Duo;
-use crate::verdict::Ran;
 use machine::Stepped;
 use mid_code::Pair;
 use srmt_base::Side;
 use srmt_outside::Outlet;
+use verdicts::Ran;
 
 /// Runs both sides in one thread to their end: the leading side until it waits or ends, then the
 /// trailing side, and so on. The Duo is as `start` gave it. Takes no memory.

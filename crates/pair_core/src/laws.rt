@@ -5,7 +5,7 @@ ghost use Rattle.srmt_base.specs.declared.trap.SourceEnd.{SourceEnd};
 ghost use Rattle.mid_code.specs.declared.program.MidProgram.{MidProgram};
 ghost use Rattle.mid_code.specs.Pairs.{HasSites};
 ghost use Rattle.world.specs.Ideal.{IsIdeal};
-ghost use Rattle.machine.specs.declared.thread_end.ThreadEnd.TheVariants.{WriteFault};
+ghost use Rattle.verdicts.specs.declared.thread_end.ThreadEnd.TheVariants.{WriteFault};
 ghost use Rattle.machine.specs.Side.{Ended};
 ghost use Rattle.pair_core.specs.Fit.{IsPrefix};
 ghost use Rattle.pair_core.specs.Duo.{Entry, scheduled};

@@ -7,15 +7,10 @@
 
 mod duo;
 mod in_turn;
-mod judging;
 mod laws;
-#[cfg(test)]
-mod tests;
-mod verdict;
 mod way;
 
 pub use duo::Duo;
 pub use in_turn::alternate;
-pub use judging::verdict_of;
 pub use laws::over_every_schedule;
-pub use verdict::{Ran, Report, Verdict};
+pub use verdicts::{Ran, Report, Verdict, verdict_of};

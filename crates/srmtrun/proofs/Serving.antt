@@ -13,8 +13,8 @@ use Rattle.mid_code.proofs.Runs.{one_end, stays_ended, exec_on}
 use Rattle.mid_run.specs.Progress.{Progress, At, Over, Runs}
 use Rattle.world.specs.Ideal.{IsIdeal}
 use Rattle.world.proofs.Running.{ideal_sound, ideal_whole}
-use Rattle.pair_core.specs.declared.verdict.Ran.{Ran}
-use Rattle.pair_core.specs.declared.verdict.Verdict.TheVariants.{WriteFault as FaultVerdict}
+use Rattle.verdicts.specs.declared.verdict.Ran.{Ran}
+use Rattle.verdicts.specs.declared.verdict.Verdict.TheVariants.{WriteFault as FaultVerdict}
 use Rattle.pair_core.specs.Answer.{IsAnswer, FollowsIdeal, verdict_as}
 use Rattle.pair_core.specs.Duo.{DuoState, opening_duo}
 use Rattle.pair_core.specs.Fit.{IsPrefix}

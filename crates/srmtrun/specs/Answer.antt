@@ -5,9 +5,9 @@ use Rattle.srmt_base.specs.declared.trap.SourceEnd.TheVariants.{Exit, Trap}
 use Rattle.srmt_base.specs.Trap.{is_budget}
 use Rattle.srmt_outside.specs.declared.file_fault.FileFault.{FileFault}
 use Rattle.srmt_outside.specs.declared.file_fault.FileFault.TheVariants.{Failed, TooLong as FileTooLong, Memory as NoMemory}
-use Rattle.pair_core.specs.declared.verdict.Ran.{Ran}
-use Rattle.pair_core.specs.declared.verdict.Verdict.{Verdict}
-use Rattle.pair_core.specs.declared.verdict.Verdict.TheVariants.{Exit as ExitVerdict, Undefined, Exhausted, Reported, WriteFault as FaultVerdict}
+use Rattle.verdicts.specs.declared.verdict.Ran.{Ran}
+use Rattle.verdicts.specs.declared.verdict.Verdict.{Verdict}
+use Rattle.verdicts.specs.declared.verdict.Verdict.TheVariants.{Exit as ExitVerdict, Undefined, Exhausted, Reported, WriteFault as FaultVerdict}
 use Rattle.srmtrun.specs.declared.first_form.FormRefusal.{FormRefusal}
 use Rattle.srmtrun.specs.declared.first_form.FormRefusal.TheVariants.{Form as NoForm, Memory}
 use Rattle.srmtrun.specs.declared.answer.CompileRefusal.TheVariants.{Form}

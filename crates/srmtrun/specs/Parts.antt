@@ -6,8 +6,8 @@ use Rattle.srmt_base.specs.declared.trap.SourceEnd.{SourceEnd}
 use Rattle.srmt_outside.specs.Told.{Appends, AppendsPrefix}
 use Rattle.mid_code.specs.declared.program.MidProgram.{MidProgram}
 use Rattle.mid_code.specs.Meaning.{Middle}
-use Rattle.pair_core.specs.declared.verdict.Ran.{Ran}
-use Rattle.pair_core.specs.declared.verdict.Verdict.TheVariants.{WriteFault as FaultVerdict}
+use Rattle.verdicts.specs.declared.verdict.Ran.{Ran}
+use Rattle.verdicts.specs.declared.verdict.Verdict.TheVariants.{WriteFault as FaultVerdict}
 use Rattle.pair_core.specs.Answer.{IsAnswer, FollowsIdeal}
 use Rattle.srmtrun.specs.declared.answer.RunAnswer.{RunAnswer}
 use Rattle.srmtrun.specs.declared.answer.RunAnswer.TheVariants.{Alone, Ran as RanBoth, Usage, ReadFault, TooLong, Refused, WriteFault, OutOfMemory}

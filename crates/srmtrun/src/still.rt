@@ -7,7 +7,7 @@ ghost use Rattle.srmt_outside.specs.Told.{Appends};
 ghost use Rattle.mid_code.specs.Valid.{IsValid};
 ghost use Rattle.mid_code.specs.Meaning.{Middle};
 ghost use Rattle.mid_code.specs.Pairs.{HasSites};
-ghost use Rattle.pair_core.specs.declared.verdict.Ran.{Ran};
+ghost use Rattle.verdicts.specs.declared.verdict.Ran.{Ran};
 ghost use Rattle.srmtrun.specs.declared.first_form.FirstForm.{FirstForm};
 ghost use Rattle.srmtrun.specs.declared.words.Mode.{Mode};
 ghost use Rattle.srmtrun.specs.Answer.{status_of, answer_from, both_from, NeverRan};

@@ -5,8 +5,8 @@ use Rattle.mid_code.specs.Machine.{act, register}
 use Rattle.mid_code.specs.declared.version.VersionOp.TheVariants.{Copied, Ask, Await, Act, Check, Ack, End}
 use Rattle.world.specs.World.{WorldState, ask}
 use Rattle.machine.specs.declared.link_call.LastCall.TheVariants.{Nothing}
-use Rattle.machine.specs.declared.thread_end.ThreadEnd.TheVariants.{Exit as ExitEnd}
-use Rattle.machine.specs.declared.thread_end.Stepped.TheVariants.{Ended as MadeLast}
+use Rattle.verdicts.specs.declared.thread_end.ThreadEnd.TheVariants.{Exit as ExitEnd}
+use Rattle.machine.specs.declared.stepped.Stepped.TheVariants.{Ended as MadeLast}
 use Rattle.machine.specs.Side.{Ended}
 use Rattle.machine.specs.Tried.{Shown}
 use Rattle.machine.proofs.Trying.{was_quiet}

@@ -3,7 +3,7 @@ use Rattle.srmt_base.specs.declared.event.Event.{Event}
 use Rattle.srmt_base.specs.declared.limits.Limits.{Limits}
 use Rattle.srmt_outside.specs.Count.{Rose}
 use Rattle.srmt_outside.specs.Told.{Appends}
-use Rattle.machine.specs.declared.thread_end.ThreadEnd.TheVariants.{WriteFault}
+use Rattle.verdicts.specs.declared.thread_end.ThreadEnd.TheVariants.{WriteFault}
 use Rattle.machine.specs.Side.{Ended}
 use Rattle.pair_core.specs.Duo.{opening_duo, Reached}
 use Rattle.pair_core.specs.Turns.{DuoFits}

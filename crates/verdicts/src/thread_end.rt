@@ -16,14 +16,3 @@ pub enum ThreadEnd {
     /// An event could not be written.
     WriteFault,
 }
-
-/// What the try of one step came to.
-#[derive(Clone, Copy, Debug, PartialEq, Eq)]
-pub enum Stepped {
-    /// The step was made.
-    Went,
-    /// No word is there yet, or there is too little room: nothing has changed.
-    NotYet,
-    /// The step was made, and the side has ended with it.
-    Ended(ThreadEnd),
-}

@@ -1,5 +1,4 @@
-use crate::{Report, Verdict, verdict_of};
-use machine::ThreadEnd;
+use crate::{Report, ThreadEnd, Verdict, verdict_of};
 use srmt_base::{Kind, Site, Trap, Word, pack};
 use std::test::Fail;
 

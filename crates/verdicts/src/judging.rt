@@ -1,9 +1,9 @@
 ghost use Rattle.std.specs.Prelude.{◌≡◌};
-ghost use Rattle.pair_core.specs.Verdict.{verdict_of_ends, stopped_by};
+ghost use Rattle.verdicts.specs.Verdict.{verdict_of_ends, stopped_by};
 ghost use Rattle.srmt_base.specs.Trap.{is_budget};
 
+use crate::thread_end::ThreadEnd;
 use crate::verdict::{Report, Verdict};
-use machine::ThreadEnd;
 use srmt_base::Trap;
 
 // Both sides came to the same trap.

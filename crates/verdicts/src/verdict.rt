@@ -1,4 +1,4 @@
-use machine::ThreadEnd;
+use crate::thread_end::ThreadEnd;
 use srmt_base::{Trap, Word};
 
 /// What the two sides' ends say together of a run.

@@ -2,11 +2,11 @@
 use Rattle.std.specs.Prelude.{ℕ, Bool, true, false, ◌&&◌, nat_eq}
 use Rattle.srmt_base.specs.declared.trap.Trap.{Trap as TrapName}
 use Rattle.srmt_base.specs.Trap.{trap_code, is_budget}
-use Rattle.machine.specs.declared.thread_end.ThreadEnd.{ThreadEnd}
-use Rattle.machine.specs.declared.thread_end.ThreadEnd.TheVariants.{Exit, Trap, Mismatch, Echo, WriteFault}
-use Rattle.pair_core.specs.declared.verdict.Report.TheVariants.{Mismatch as ReportMismatch, Echo as ReportEcho, Parted}
-use Rattle.pair_core.specs.declared.verdict.Verdict.{Verdict}
-use Rattle.pair_core.specs.declared.verdict.Verdict.TheVariants.{Exit as ExitVerdict, Undefined, Exhausted, Reported, WriteFault as FaultVerdict}
+use Rattle.verdicts.specs.declared.thread_end.ThreadEnd.{ThreadEnd}
+use Rattle.verdicts.specs.declared.thread_end.ThreadEnd.TheVariants.{Exit, Trap, Mismatch, Echo, WriteFault}
+use Rattle.verdicts.specs.declared.verdict.Report.TheVariants.{Mismatch as ReportMismatch, Echo as ReportEcho, Parted}
+use Rattle.verdicts.specs.declared.verdict.Verdict.{Verdict}
+use Rattle.verdicts.specs.declared.verdict.Verdict.TheVariants.{Exit as ExitVerdict, Undefined, Exhausted, Reported, WriteFault as FaultVerdict}
 
 -- both ended by a status
 abbrev pub exit_verdict : Bool → ℕ → ℕ → Verdict
