@@ -8,3 +8,6 @@ pub mod Types
 pub mod Word
 pub mod Objects
 pub mod Memory
+pub mod Budgets
+pub mod Input
+pub mod Statics
