@@ -1,5 +1,5 @@
 -- What is left to the functions of a part: turns and live activations. Both parts have budgets of equal size.
-use Rattle.std.specs.Prelude.{ℕ, ◌+◌, ◌-◌, ◌==◌, if◌then◌else◌, Result, Ok, Err, result_map}
+use Rattle.std.specs.Prelude.{ℕ, ◌+◌, ◌-◌, ◌==◌, if◌then◌else◌, Result, Ok, Err}
 use Rattle.srmt_base.specs.declared.budgets.Budget.{Budget}
 use Rattle.srmt_base.specs.declared.budgets.Budgets.{Budgets}
 use Rattle.srmt_base.specs.declared.limits.Limits.{Limits}
@@ -39,12 +39,17 @@ abbrev pub with_budget : Part → Budget → Budgets → Budgets
 with_budget Protected budget budgets = record budgets { protected = budget }
 with_budget Binary budget budgets = record budgets { binary = budget }
 
+-- both parts' with what became of one of them, or its trap
+abbrev pub with_result : Part → Budgets → Result Budget Trap → Result Budgets Trap
+with_result part budgets (Ok budget) = Ok (with_budget part budget budgets)
+with_result part budgets (Err trap) = Err trap
+
 -- both after one of these in a part
 abbrev pub turn_of : Part → Budgets → Result Budgets Trap
-turn_of part budgets = result_map (λ budget. with_budget part budget budgets) (after_turn (budget_of part budgets))
+turn_of part budgets = with_result part budgets (after_turn (budget_of part budgets))
 
 abbrev pub enter_of : Part → Budgets → Result Budgets Trap
-enter_of part budgets = result_map (λ budget. with_budget part budget budgets) (after_entry (budget_of part budgets))
+enter_of part budgets = with_result part budgets (after_entry (budget_of part budgets))
 
 abbrev pub leave_of : Part → Budgets → Budgets
 leave_of part budgets = with_budget part (after_leave (budget_of part budgets)) budgets
