@@ -3,6 +3,7 @@ pub mod Arith
 pub mod Convert
 pub mod Laws
 pub mod Pointer
+pub mod RequestKind
 pub mod Trap
 pub mod Types
 pub mod Word
