@@ -127,24 +127,27 @@ impl Ty {
         ensures least { neg_ℤ (pos (2 ^ (kept_width_of self - 1))) ≤ℤ result }
         ensures greatest { result <ℤ pos (2 ^ kept_width_of self) }
     {
-        let low = (number % KEPT) as i64;
-        if self.is_signed() && low >= 1 << 31 {
-            low - KEPT as i64
+        let low = (number % KEPT) as u32;
+        if self.is_signed() {
+            i64::from(low.cast_signed())
         } else {
-            low
+            i64::from(low)
         }
     }
 
     /// The value of the type that is congruent to a value modulo 2 to the type's width.
     pub(crate) fn wrap(self, value: i64) -> i64
+        requires small { value <ℤ pos (2 ^ 32) }
         ensures { result ≡ wrapped self value }
     {
-        let modulus = 1 << self.width();
-        let low = value.rem_euclid(modulus);
-        if self.is_signed() && low >= modulus / 2 {
-            low - modulus
-        } else {
-            low
+        match self {
+            Ty::Bool => value.rem_euclid(1 << 1),
+            Ty::Char | Ty::SChar => (value + (1 << 7)).rem_euclid(1 << 8) - (1 << 7),
+            Ty::UChar => value.rem_euclid(1 << 8),
+            Ty::Short => (value + (1 << 15)).rem_euclid(1 << 16) - (1 << 15),
+            Ty::UShort => value.rem_euclid(1 << 16),
+            Ty::Int => (value + (1 << 31)).rem_euclid(1 << 32) - (1 << 31),
+            Ty::UInt => value.rem_euclid(1 << 32),
         }
     }
 }
@@ -154,5 +157,5 @@ pub(crate) fn keep(value: i64) -> u64
     ensures exact { result ≡ kept value }
     ensures small { result < 2 ^ 32 }
 {
-    value.rem_euclid(KEPT as i64) as u64
+    value.cast_unsigned() % KEPT
 }
