@@ -137,17 +137,17 @@ impl Ty {
 
     /// The value of the type that is congruent to a value modulo 2 to the type's width.
     pub(crate) fn wrap(self, value: i64) -> i64
-        requires small { value <ℤ pos (2 ^ 32) }
         ensures { result ≡ wrapped self value }
     {
+        let bits = value.cast_unsigned();
         match self {
-            Ty::Bool => value.rem_euclid(1 << 1),
-            Ty::Char | Ty::SChar => (value + (1 << 7)).rem_euclid(1 << 8) - (1 << 7),
-            Ty::UChar => value.rem_euclid(1 << 8),
-            Ty::Short => (value + (1 << 15)).rem_euclid(1 << 16) - (1 << 15),
-            Ty::UShort => value.rem_euclid(1 << 16),
-            Ty::Int => (value + (1 << 31)).rem_euclid(1 << 32) - (1 << 31),
-            Ty::UInt => value.rem_euclid(1 << 32),
+            Ty::Bool => (bits % (1 << 1)) as i64,
+            Ty::Char | Ty::SChar => i64::from(((bits % (1 << 8)) as u8).cast_signed()),
+            Ty::UChar => (bits % (1 << 8)) as i64,
+            Ty::Short => i64::from(((bits % (1 << 16)) as u16).cast_signed()),
+            Ty::UShort => (bits % (1 << 16)) as i64,
+            Ty::Int => i64::from(((bits % (1 << 32)) as u32).cast_signed()),
+            Ty::UInt => (bits % (1 << 32)) as i64,
         }
     }
 }
