@@ -34,5 +34,7 @@ args_list-injective a b same =
       values = values i;
       room = is_prop→PathP (λ j. length (values j) ≡ 16) (λ j. ℕ_set (length (values j)) 16) a.room b.room i;
       within = is_prop→PathP (λ j. counts j ≤ 16) (λ j. le_prop) a.within b.within i;
-      rest = is_prop→PathP (λ j. (k : ℕ) → counts j ≤ k → get_or (values j) k 0 ≡ 0) (λ j. Π_prop (λ k. Π_prop (λ past. ℕ_set (get_or (values j) k 0) 0))) a.rest b.rest i;
+      rest =
+          is_prop→PathP (λ j. (k : ℕ) → counts j ≤ k → get_or (values j) k 0 ≡ 0)
+          (λ j. Π_prop (λ k. Π_prop (λ past. ℕ_set (get_or (values j) k 0) 0))) a.rest b.rest i;
     }

@@ -93,7 +93,8 @@ pub pointer_sum_of-lt : (p : ℕ) (ty : Ty) (index : ℕ) (negated : Bool) (scal
 pointer_sum_of-lt p ty index negated scale h = moved-lt p (amount_of ty index negated scale) h
 
 pub pointer_difference_of-lt : (p q scale : ℕ) → IsBelow (2 ^ 32) (pointer_difference_of p q scale)
-pointer_difference_of-lt p q scale = if-lt _ (object_part p == object_part q) _ _ (λ _. (kept-lt (int_div (pos (offset_part p) -ℤ pos (offset_part q)) (pos scale)))) tt
+pointer_difference_of-lt p q scale =
+    if-lt _ (object_part p == object_part q) _ _ (λ _. (kept-lt (int_div (pos (offset_part p) -ℤ pos (offset_part q)) (pos scale)))) tt
 
 pub pointer_comparison_of-lt : (op : Op) (p q : ℕ) → IsBelow 2 (pointer_comparison_of op p q)
 pointer_comparison_of-lt op p q =

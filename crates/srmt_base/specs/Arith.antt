@@ -39,24 +39,42 @@ bits_at ty number = number % 2 ^ kept_width_of ty
 
 -- whether an operator compares, and does not compute
 abbrev pub is_comparison : Op → Test
+is_comparison Add = false
+is_comparison Sub = false
+is_comparison Mul = false
+is_comparison Div = false
+is_comparison Rem = false
+is_comparison Shl = false
+is_comparison Shr = false
+is_comparison And = false
+is_comparison Or = false
+is_comparison Xor = false
 is_comparison Lt = true
 is_comparison Gt = true
 is_comparison Le = true
 is_comparison Ge = true
 is_comparison Eq = true
 is_comparison Ne = true
-is_comparison _ = false
 
 -- whether two values compare as an operator says (C11 6.5.8p6, 6.5.9p3); never for an operator that
 -- does not compare
 abbrev pub compares : Op → ℤ → ℤ → Test
+compares Add x y = false
+compares Sub x y = false
+compares Mul x y = false
+compares Div x y = false
+compares Rem x y = false
+compares Shl x y = false
+compares Shr x y = false
+compares And x y = false
+compares Or x y = false
+compares Xor x y = false
 compares Lt x y = int_lt x y
 compares Gt x y = int_lt y x
 compares Le x y = int_le x y
 compares Ge x y = int_le y x
 compares Eq x y = int_eq x y
 compares Ne x y = not (int_eq x y)
-compares _ x y = false
 
 -- the quotient truncates toward zero; a divisor of 0, and a quotient that the type cannot represent,
 -- are undefined for both operators (C11 6.5.5p5, p6)

@@ -3,8 +3,12 @@ pub mod Arith
 pub mod Convert
 pub mod Laws
 pub mod Pointer
+pub mod RequestKind
 pub mod Trap
 pub mod Types
 pub mod Word
 pub mod Objects
 pub mod Memory
+pub mod Budgets
+pub mod Input
+pub mod Statics

@@ -2,17 +2,12 @@
 --
 -- Each part has a budget of cells and numbers of its own. A function begins its objects in its own part, and
 -- may access both.
-use Rattle.std.specs.Prelude.{ℕ, nat_lt, Bool, true, false, if◌then◌else◌, Result, Ok, Err}
+use Rattle.std.specs.Prelude.{ℕ, ◌+◌, nat_lt, Bool, true, false, if◌then◌else◌, Result, Ok, Err}
+use Rattle.srmt_base.specs.declared.part.Part.{Part}
+use Rattle.srmt_base.specs.declared.part.Part.TheVariants.{Protected, Binary}
 use Rattle.srmt_base.specs.declared.trap.Trap.{Trap}
 use Rattle.srmt_base.specs.declared.trap.Trap.TheVariants.{Store}
-use Rattle.srmt_base.specs.Objects.{Objects, object_part, load_of, put_of, add_of, end_of}
-
--- the two parts of a program
-pub data Part : Type 0 where
-  -- what the main file defines
-  Protected : Part
-  -- what the binary file defines
-  Binary : Part
+use Rattle.srmt_base.specs.Objects.{Objects, object_part, live_cells, load_of, put_of, begun, end_of}
 
 -- the first and the last number of an object of a part
 abbrev pub first_number : Part → ℕ
@@ -66,12 +61,34 @@ write_of memory pointer value = changed (part_of pointer) memory (put_of (object
 abbrev pub next_number : Part → Memory → ℕ
 next_number part memory = (objects_of part memory).fresh
 
--- beginning an object of zeros in a part. `Store` where the numbers of the part are used up, or where more
--- cells than its budget would live
+-- what the beginnings of objects are counted against: the number of the next one, how many cells live, and how many may
+pub record Count : Type 0 where
+  pub fresh : ℕ
+  pub cells : ℕ
+  pub budget : ℕ
+
+abbrev pub count_of : Objects → Count
+count_of objects = record { fresh = objects.fresh; cells = live_cells objects; budget = objects.budget }
+
+-- drawing the number and the cells of a new object of a part: `Store` where the part's numbers are used up, or where
+-- more cells than the budget would live
+abbrev pub draw_of : Part → Count → ℕ → Result Count Trap
+draw_of part count cells =
+    if nat_lt (last_number part) count.fresh then Err Store
+    else if nat_lt count.budget (count.cells + cells) then Err Store
+    else Ok (record { fresh = count.fresh + 1; cells = count.cells + cells; budget = count.budget })
+
+-- an object that was drawn joins those that live, a row of zeros
+abbrev pub begun_if : Result Count Trap → Objects → ℕ → Result Objects Trap
+begun_if (Ok count) objects cells = Ok (begun objects objects.fresh cells false)
+begun_if (Err trap) objects cells = Err trap
+
+-- beginning an object of zeros in a part by itself, and in memory
+abbrev pub begin_in : Part → Objects → ℕ → Result Objects Trap
+begin_in part objects cells = begun_if (draw_of part (count_of objects) cells) objects cells
+
 abbrev pub begin_of : Part → Memory → ℕ → Result Memory Trap
-begin_of part memory cells =
-    if nat_lt (last_number part) (next_number part memory) then Err Store
-    else changed part memory (add_of (objects_of part memory) (next_number part memory) cells false)
+begin_of part memory cells = changed part memory (begin_in part (objects_of part memory) cells)
 
 -- ending the object of a number
 abbrev pub finish_of : Memory → ℕ → Memory

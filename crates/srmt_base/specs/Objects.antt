@@ -90,7 +90,8 @@ begun s number cells read_only =
       live = s.live ++ record { number = number; cells = replicate cells 0; read_only = read_only } ∷ [];
     }
 
--- beginning an object: the budget trap `Store` where its number is below the first or not above each number added before, or where more cells than the budget would live
+-- beginning an object: the budget trap `Store` where its number is below the first or not above each number added before,
+-- or where more cells than the budget would live
 abbrev pub add_of : Objects → ℕ → ℕ → Bool → Result Objects Trap
 add_of s number cells read_only =
     if nat_lt number s.fresh || nat_lt s.budget (live_cells s + cells) then Err Store else Ok (begun s number cells read_only)

@@ -3,7 +3,7 @@ use Rattle.std.specs.Prelude.{ℕ, ℤ, pos, ◌+ℤ◌, ◌-ℤ◌, ◌*ℤ◌,
 use Rattle.std.specs.Int.{from_bool}
 use Rattle.std.specs.Ordering.{int_eq}
 use Rattle.srmt_base.specs.declared.op.Op.{Op}
-use Rattle.srmt_base.specs.declared.op.Op.TheVariants.{Eq, Ne}
+use Rattle.srmt_base.specs.declared.op.Op.TheVariants.{Add, Sub, Mul, Div, Rem, Shl, Shr, And, Or, Xor, Lt, Gt, Le, Ge, Eq, Ne}
 use Rattle.srmt_base.specs.declared.trap.Trap.{Trap}
 use Rattle.srmt_base.specs.declared.trap.Trap.TheVariants.{NullPointer, OutsideObject, OtherObject}
 use Rattle.srmt_base.specs.declared.ty.Ty.{Ty}
@@ -17,9 +17,22 @@ is_offset z = int_le (pos 0) z && int_le z (pos 65535)
 
 -- whether an operator tests for equality
 abbrev pub is_equality : Op → Bool
+is_equality Add = false
+is_equality Sub = false
+is_equality Mul = false
+is_equality Div = false
+is_equality Rem = false
+is_equality Shl = false
+is_equality Shr = false
+is_equality And = false
+is_equality Or = false
+is_equality Xor = false
+is_equality Lt = false
+is_equality Gt = false
+is_equality Le = false
+is_equality Ge = false
 is_equality Eq = true
 is_equality Ne = true
-is_equality _ = false
 
 -- the cells by which a sum with an index moves; a difference moves the other way (C11 6.5.6p8)
 abbrev pub amount_of : Ty → ℕ → Bool → ℕ → ℤ

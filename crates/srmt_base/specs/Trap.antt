@@ -20,7 +20,15 @@ trap_code Store = 12
 
 -- whether a trap is a budget that was used up, and no undefined behaviour
 abbrev pub is_budget : Trap → Bool
+is_budget Overflow = false
+is_budget DivideByZero = false
+is_budget ShiftRange = false
+is_budget NullPointer = false
+is_budget OutsideObject = false
+is_budget DeadObject = false
+is_budget ReadOnly = false
+is_budget OtherObject = false
+is_budget NotAFunction = false
 is_budget Turns = true
 is_budget Depth = true
 is_budget Store = true
-is_budget _ = false

@@ -83,6 +83,11 @@ can_hold ty z = int_le (least_of ty) z && int_le z (greatest_of ty)
 
 -- arithmetic is made at the type: the operands of smaller types are promoted first (C11 6.3.1.1p2)
 abbrev pub IsPromoted : Ty → Type 0
+IsPromoted Bool = ⊥
+IsPromoted Char = ⊥
+IsPromoted SChar = ⊥
+IsPromoted UChar = ⊥
+IsPromoted Short = ⊥
+IsPromoted UShort = ⊥
 IsPromoted Int = ⊤
 IsPromoted UInt = ⊤
-IsPromoted _ = ⊥

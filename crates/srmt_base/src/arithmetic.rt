@@ -1,5 +1,5 @@
 ghost use Rattle.std.specs.Prelude.{◌≡◌, ◌<◌, ◌^◌, ◌↔◌, IsTrue, IfOk, pos, neg_ℤ, ◌<ℤ◌, ◌≤ℤ◌};
-ghost use Rattle.srmt_base.specs.Types.{width_of, IsPromoted};
+ghost use Rattle.srmt_base.specs.Types.{width_of, kept_width_of, can_hold, IsPromoted};
 ghost use Rattle.srmt_base.specs.Arith.{arith_of, reduced, divided, remaining, shifted_left, shifted_right};
 
 use crate::op::Op;
@@ -10,36 +10,46 @@ use crate::ty::{KEPT, Ty, keep};
 pub fn arith(op: Op, ty: Ty, a: u64, b: u64) -> Result<u64, Trap>
     requires { IsPromoted ty }
     ensures exact { result ≡ arith_of op ty a b }
-    ensures small { IfOk result (λ value. value < 2 ^ 32) }
+    ensures small { IfOk result (λ value. value < 2 ^ kept_width_of ty) }
 {
-    let x = ty.read(a);
-    let y = ty.read(b);
-    let count = b % KEPT;
     match op {
-        Op::Add => reduce(ty, x + y),
-        Op::Sub => reduce(ty, x - y),
+        Op::Add => reduce(ty, ty.read(a) + ty.read(b)),
+        Op::Sub => reduce(ty, ty.read(a) - ty.read(b)),
         Op::Mul => multiply(ty, a, b),
-        Op::Div => divide(ty, x, y),
-        Op::Rem => remain(ty, x, y),
-        Op::Shl => shift_left(ty, x, count),
-        Op::Shr => shift_right(ty, x, count),
+        Op::Div => divide(ty, ty.read(a), ty.read(b)),
+        Op::Rem => remain(ty, ty.read(a), ty.read(b)),
+        Op::Shl => shift_left(ty, ty.read(a), b % KEPT),
+        Op::Shr => shift_right(ty, ty.read(a), b % KEPT),
         Op::And => Ok((a % KEPT) & (b % KEPT)),
         Op::Or => Ok((a % KEPT) | (b % KEPT)),
         Op::Xor => Ok((a % KEPT) ^ (b % KEPT)),
-        Op::Lt => Ok(u64::from(x < y)),
-        Op::Gt => Ok(u64::from(x > y)),
-        Op::Le => Ok(u64::from(x <= y)),
-        Op::Ge => Ok(u64::from(x >= y)),
-        Op::Eq => Ok(u64::from(x == y)),
-        Op::Ne => Ok(u64::from(x != y)),
+        Op::Lt => Ok(u64::from(ty.read(a) < ty.read(b))),
+        Op::Gt => Ok(u64::from(ty.read(a) > ty.read(b))),
+        Op::Le => Ok(u64::from(ty.read(a) <= ty.read(b))),
+        Op::Ge => Ok(u64::from(ty.read(a) >= ty.read(b))),
+        Op::Eq => Ok(u64::from(ty.read(a) == ty.read(b))),
+        Op::Ne => Ok(u64::from(ty.read(a) != ty.read(b))),
+    }
+}
+
+/// Whether a type at which arithmetic is made can represent a value.
+fn can_hold(ty: Ty, value: i64) -> bool
+    requires { IsPromoted ty }
+    ensures { result ≡ can_hold ty value }
+{
+    if ty.is_signed() {
+        -(1 << 31) <= value && value < 1 << 31
+    } else {
+        0 <= value && value < 1 << 32
     }
 }
 
 fn reduce(ty: Ty, value: i64) -> Result<u64, Trap>
+    requires { IsPromoted ty }
     ensures exact { result ≡ reduced ty value }
-    ensures small { IfOk result (λ value. value < 2 ^ 32) }
+    ensures small { IfOk result (λ value. value < 2 ^ kept_width_of ty) }
 {
-    if ty.is_signed() && !ty.can_hold(value) {
+    if ty.is_signed() && !can_hold(ty, value) {
         Err(Trap::Overflow)
     } else {
         Ok(keep(value))
@@ -49,7 +59,7 @@ fn reduce(ty: Ty, value: i64) -> Result<u64, Trap>
 fn multiply(ty: Ty, a: u64, b: u64) -> Result<u64, Trap>
     requires { IsPromoted ty }
     ensures exact { result ≡ arith_of Op.Mul ty a b }
-    ensures small { IfOk result (λ value. value < 2 ^ 32) }
+    ensures small { IfOk result (λ value. value < 2 ^ kept_width_of ty) }
 {
     if ty.is_signed() {
         reduce(ty, ty.read(a) * ty.read(b))
@@ -59,9 +69,10 @@ fn multiply(ty: Ty, a: u64, b: u64) -> Result<u64, Trap>
 }
 
 fn divide(ty: Ty, x: i64, y: i64) -> Result<u64, Trap>
-    requires { neg_ℤ (pos (2 ^ 31)) ≤ℤ x }
+    requires promoted { IsPromoted ty }
+    requires least { neg_ℤ (pos (2 ^ 31)) ≤ℤ x }
     ensures exact { result ≡ divided ty x y }
-    ensures small { IfOk result (λ value. value < 2 ^ 32) }
+    ensures small { IfOk result (λ value. value < 2 ^ kept_width_of ty) }
 {
     if y == 0 {
         Err(Trap::DivideByZero)
@@ -71,13 +82,14 @@ fn divide(ty: Ty, x: i64, y: i64) -> Result<u64, Trap>
 }
 
 fn remain(ty: Ty, x: i64, y: i64) -> Result<u64, Trap>
-    requires { neg_ℤ (pos (2 ^ 31)) ≤ℤ x }
+    requires promoted { IsPromoted ty }
+    requires least { neg_ℤ (pos (2 ^ 31)) ≤ℤ x }
     ensures exact { result ≡ remaining ty x y }
-    ensures small { IfOk result (λ value. value < 2 ^ 32) }
+    ensures small { IfOk result (λ value. value < 2 ^ kept_width_of ty) }
 {
     if y == 0 {
         Err(Trap::DivideByZero)
-    } else if ty.can_hold(x / y) {
+    } else if can_hold(ty, x / y) {
         Ok(keep(x % y))
     } else {
         Err(Trap::Overflow)
@@ -92,9 +104,10 @@ fn can_shift(ty: Ty, count: u64) -> bool
 }
 
 fn shift_left(ty: Ty, x: i64, count: u64) -> Result<u64, Trap>
-    requires { x <ℤ pos (2 ^ 32) }
+    requires promoted { IsPromoted ty }
+    requires below { x <ℤ pos (2 ^ 32) }
     ensures exact { result ≡ shifted_left ty x count }
-    ensures small { IfOk result (λ value. value < 2 ^ 32) }
+    ensures small { IfOk result (λ value. value < 2 ^ kept_width_of ty) }
 {
     if !can_shift(ty, count) {
         Err(Trap::ShiftRange)
@@ -107,7 +120,7 @@ fn shift_left(ty: Ty, x: i64, count: u64) -> Result<u64, Trap>
 
 fn shift_right(ty: Ty, x: i64, count: u64) -> Result<u64, Trap>
     ensures exact { result ≡ shifted_right ty x count }
-    ensures small { IfOk result (λ value. value < 2 ^ 32) }
+    ensures small { IfOk result (λ value. value < 2 ^ kept_width_of ty) }
 {
     if can_shift(ty, count) {
         Ok(keep(x >> count))

@@ -1,5 +1,5 @@
-ghost use Rattle.std.specs.Prelude.{◌≡◌, ◌<◌, ℕ, ◌^◌, ◌↔◌, pos, neg_ℤ, ◌≤ℤ◌, ◌<ℤ◌, IsTrue, IsSome, IfSome};
-ghost use Rattle.srmt_base.specs.Types.{ty_code, width_of, is_signed, least_of, greatest_of, can_hold, IsPromoted, value_at, wrapped, kept};
+ghost use Rattle.std.specs.Prelude.{◌≡◌, ◌<◌, ◌-◌, ℕ, ◌^◌, ◌↔◌, pos, neg_ℤ, ◌≤ℤ◌, ◌<ℤ◌, IsTrue, IsSome, IfSome};
+ghost use Rattle.srmt_base.specs.Types.{ty_code, width_of, is_signed, least_of, greatest_of, can_hold, IsPromoted, kept_width_of, value_at, wrapped, kept};
 
 use crate::codes::in_order;
 
@@ -52,8 +52,8 @@ const TYPES: [Row; 8] = rows! {
 
 const _: () = in_order!(TYPES.ty; 0 1 2 3 4 5 6 7);
 
-/// A value is kept modulo this number.
-pub const KEPT: u64 = 1 << 32;
+/// A value of a type of at most 32 bits is kept modulo this number.
+pub(crate) const KEPT: u64 = 1 << 32;
 
 impl Ty {
     /// The code, 0 to 7.
@@ -93,7 +93,7 @@ impl Ty {
     }
 
     /// The least value of the type.
-    pub fn least(self) -> i64
+    pub fn least(self) -> i128
         ensures { result ≡ least_of self }
     {
         if self.is_signed() {
@@ -104,7 +104,7 @@ impl Ty {
     }
 
     /// The greatest value of the type.
-    pub fn greatest(self) -> i64
+    pub fn greatest(self) -> i128
         ensures { result ≡ greatest_of self }
     {
         if self.is_signed() {
@@ -115,44 +115,47 @@ impl Ty {
     }
 
     /// Whether the type can represent a value.
-    pub fn can_hold(self, value: i64) -> bool
+    pub fn can_hold(self, value: i128) -> bool
         ensures { result ≡ can_hold self value }
     {
         self.least() <= value && value <= self.greatest()
     }
 
     /// What a number stands for when it is read at the type.
-    pub fn read(self, number: u64) -> i64
+    pub(crate) fn read(self, number: u64) -> i64
         ensures value { result ≡ value_at self number }
-        ensures least { neg_ℤ (pos (2 ^ 31)) ≤ℤ result }
-        ensures greatest { result <ℤ pos (2 ^ 32) }
+        ensures least { neg_ℤ (pos (2 ^ (kept_width_of self - 1))) ≤ℤ result }
+        ensures greatest { result <ℤ pos (2 ^ kept_width_of self) }
     {
-        let low = (number % KEPT) as i64;
-        if self.is_signed() && low >= 1 << 31 {
-            low - KEPT as i64
+        let low = (number % KEPT) as u32;
+        if self.is_signed() {
+            i64::from(low.cast_signed())
         } else {
-            low
+            i64::from(low)
         }
     }
 
     /// The value of the type that is congruent to a value modulo 2 to the type's width.
-    pub fn wrap(self, value: i64) -> i64
+    pub(crate) fn wrap(self, value: i64) -> i64
         ensures { result ≡ wrapped self value }
     {
-        let modulus = 1 << self.width();
-        let low = value.rem_euclid(modulus);
-        if self.is_signed() && low >= modulus / 2 {
-            low - modulus
-        } else {
-            low
+        let bits = value.cast_unsigned();
+        match self {
+            Ty::Bool => (bits % (1 << 1)) as i64,
+            Ty::Char | Ty::SChar => i64::from(((bits % (1 << 8)) as u8).cast_signed()),
+            Ty::UChar => (bits % (1 << 8)) as i64,
+            Ty::Short => i64::from(((bits % (1 << 16)) as u16).cast_signed()),
+            Ty::UShort => (bits % (1 << 16)) as i64,
+            Ty::Int => i64::from(((bits % (1 << 32)) as u32).cast_signed()),
+            Ty::UInt => (bits % (1 << 32)) as i64,
         }
     }
 }
 
-/// The number as which a value is kept: modulo 2^32.
-pub fn keep(value: i64) -> u64
+/// The number as which a value of a type of at most 32 bits is kept.
+pub(crate) fn keep(value: i64) -> u64
     ensures exact { result ≡ kept value }
     ensures small { result < 2 ^ 32 }
 {
-    value.rem_euclid(KEPT as i64) as u64
+    value.cast_unsigned() % KEPT
 }

@@ -18,7 +18,9 @@ module _ {T : Type 0} where
   Asks (Err TooLong) before after name = Appends before after (name ∷ [])
   Asks (Err Memory) before after name = after ≡ before
 
-  -- the count of faults after a call with this answer
+  -- the count of faults after a call with this answer: one more where it failed, and else as it was
   abbrev pub faults_after : ℕ → Result T FileFault → ℕ
+  faults_after faults (Ok _) = faults
   faults_after faults (Err Failed) = next_count faults
-  faults_after faults _ = faults
+  faults_after faults (Err TooLong) = faults
+  faults_after faults (Err Memory) = faults

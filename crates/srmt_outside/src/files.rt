@@ -1,6 +1,6 @@
 ghost use Rattle.std.specs.Prelude.{◌≡◌, ℕ, ◌^◌, ◌<◌, ◌≤◌, List, ◌++◌, length, Option, OnOk, OnErr, IfSome, IsErrOf};
 ghost use Rattle.srmt_outside.specs.Count.{Rose};
-ghost use Rattle.srmt_outside.specs.Files.{Asks, GrowsWithin};
+ghost use Rattle.srmt_outside.specs.Files.{Asks, GrowsWithin, faults_after};
 
 use crate::FileFault;
 use std::alloc::Global;
@@ -33,6 +33,9 @@ pub trait Files {
         // the call failed or memory was out.
         ensures too_long { IsErrOf result FileFault.TooLong
             → IfSome (contents self.old name.now) (λ bytes. limit < length bytes) }
+
+        // A call that fails raises the count by one, and every other leaves it.
+        ensures count { faults self.new ≡ faults_after (faults self.old) result }
         ensures rose { IsErrOf result FileFault.Failed → Rose (faults self.old) (faults self.new) }
         ensures never_falls { faults self.old ≤ faults self.new }
         ensures count_fits { faults self.new < 2 ^ 64 }

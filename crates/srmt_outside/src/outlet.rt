@@ -1,6 +1,6 @@
 ghost use Rattle.std.specs.Prelude.{◌≡◌, ℕ, ◌^◌, ◌<◌, ◌≤◌, List, [], ◌∷◌, Option, OnOk, OnErr};
 ghost use Rattle.srmt_base.specs.declared.event.Event.{Event};
-ghost use Rattle.srmt_outside.specs.Count.{Rose};
+ghost use Rattle.srmt_outside.specs.Count.{next_count, Rose};
 ghost use Rattle.srmt_outside.specs.Told.{Appends};
 
 use crate::Failed;
@@ -18,6 +18,8 @@ pub trait Outlet {
     fn event(&mut self, event: Event) -> Result<(), Failed>
         ensures appends { OnOk result (Appends (events self.old) (events self.new) (event ∷ [])) }
         ensures keeps { OnErr result (events self.new ≡ events self.old) }
+        ensures stands { OnOk result (faults self.new ≡ faults self.old) }
+        ensures counted { OnErr result (faults self.new ≡ next_count (faults self.old)) }
         ensures rose { OnErr result (Rose (faults self.old) (faults self.new)) }
         ensures never_falls { faults self.old ≤ faults self.new }
         ensures count_fits { faults self.new < 2 ^ 64 };

@@ -1,6 +1,6 @@
-ghost use Rattle.std.specs.Prelude.{◌≡◌, ◌<◌, ◌≤◌, [], ◌∷◌, ◌++◌, length, OnOk, OnErr, IfOk, IfSome, IsErrOf};
-ghost use Rattle.srmt_outside.specs.Count.{Rose};
-ghost use Rattle.srmt_outside.specs.Files.{Asks};
+ghost use Rattle.std.specs.Prelude.{◌≡◌, ◌<◌, ◌≤◌, length, OnOk, OnErr, IfOk, IfSome, IsErrOf};
+ghost use Rattle.srmt_outside.specs.Count.{next_count};
+ghost use Rattle.srmt_outside.specs.Files.{Asks, faults_after};
 ghost use Rattle.srmt_outside.specs.Told.{Appends, AppendsPrefix};
 
 use super::*;
@@ -14,8 +14,8 @@ fn write_all<O: Outlet>(outlet: &mut O, events: &[Event]) -> Result<(), Failed>
     ensures ok { OnOk result (Appends (O.events outlet.old) (O.events outlet.new) events.now) }
     ensures failed { OnErr result
         (AppendsPrefix (O.events outlet.old) (O.events outlet.new) events.now) }
-    ensures rose { OnErr result (Rose (O.faults outlet.old) (O.faults outlet.new)) }
-    ensures never_falls { O.faults outlet.old ≤ O.faults outlet.new }
+    ensures stands { OnOk result (O.faults outlet.new ≡ O.faults outlet.old) }
+    ensures counted { OnErr result (O.faults outlet.new ≡ next_count (O.faults outlet.old)) }
 {
     for event in events {
         outlet.event(*event)?;
@@ -29,44 +29,13 @@ fn load<F: Files>(alloc: Global, files: &mut F, name: &str) -> Result<Vec<u8>, F
     ensures within { IfOk result (λ bytes. length bytes.items ≤ 10) }
     ensures too_long { IsErrOf result FileFault.TooLong
         → IfSome (F.contents files.old name.now) (λ told. 10 < length told) }
-    ensures rose { IsErrOf result FileFault.Failed → Rose (F.faults files.old) (F.faults files.new) }
-    ensures never_falls { F.faults files.old ≤ F.faults files.new }
+    ensures count { F.faults files.new ≡ faults_after (F.faults files.old) result }
     ensures asks { Asks result (F.asked files.old) (F.asked files.new) name.now }
     ensures unchanged { F.contents files.new ≡ F.contents files.old }
 {
     let mut bytes = Vec::new(alloc);
     files.read(alloc, name, &mut bytes, 10)?;
     Ok(bytes)
-}
-
-// Two files in turn: what the second says is of the files as they were at first.
-fn load_two<F: Files>(
-    alloc: Global,
-    files: &mut F,
-    first: &str,
-    second: &str,
-) -> Result<(Vec<u8>, Vec<u8>), FileFault>
-    ensures first { IfOk result (λ both. IfSome (F.contents files.old first.now) (λ told. both.0.items ≡ told)) }
-    ensures second { IfOk result (λ both. IfSome (F.contents files.old second.now) (λ told. both.1.items ≡ told)) }
-    ensures rose { IsErrOf result FileFault.Failed → Rose (F.faults files.old) (F.faults files.new) }
-    ensures asks { OnOk result (Appends (F.asked files.old) (F.asked files.new) (first.now ∷ second.now ∷ [])) }
-{
-    let one = load(alloc, files, first)?;
-    let two = load(alloc, files, second)?;
-    Ok((one, two))
-}
-
-// What a caller learns of any sink: it wrote both pieces, or a prefix of them and a fault.
-fn push_two<S: Sink>(sink: &mut S, first: &[u8], second: &[u8]) -> Result<(), Failed>
-    ensures ok { OnOk result
-        (Appends (S.bytes sink.old) (S.bytes sink.new) (first.now ++ second.now)) }
-    ensures failed { OnErr result
-        (AppendsPrefix (S.bytes sink.old) (S.bytes sink.new) (first.now ++ second.now)) }
-    ensures rose { OnErr result (Rose (S.faults sink.old) (S.faults sink.new)) }
-{
-    sink.push(first)?;
-    sink.push(second)?;
-    Ok(())
 }
 
 const EVENTS: [Event; 5] = [
@@ -76,35 +45,6 @@ const EVENTS: [Event; 5] = [
     Event::Byte(66),
     Event::Exit(7),
 ];
-
-#[test]
-fn an_outlet_in_memory_keeps_events(rt: HostRuntime) -> Result<(), Fail> {
-    let mut outlet = MemOutlet::with_room(rt.alloc(), 3)?;
-    outlet.fails.push(2)?;
-    let mut answers = [true; 5];
-    for i in 0..5 {
-        answers[i] = outlet.event(EVENTS[i]).is_ok();
-    }
-    assert_eq!(rt; answers, [true, false, true, true, false]);
-    let kept = [EVENTS[0], EVENTS[2], EVENTS[3]];
-    assert_eq!(rt; outlet.events(), kept.as_slice());
-    assert_eq!(rt; write_all(&mut outlet, &EVENTS), Err(Failed));
-    Ok(())
-}
-
-#[test]
-fn a_sure_outlet_counts_events(rt: HostRuntime) -> Result<(), Fail> {
-    let mut outlet = SureOutlet::new();
-    write_all(&mut outlet, &EVENTS)?;
-    let want = SureOutlet {
-        bytes: 2,
-        port_reads: 1,
-        port_writes: 1,
-        exits: 1,
-    };
-    assert_eq!(rt; outlet, want);
-    Ok(())
-}
 
 // A writer that takes no byte, and cannot flush.
 #[derive(Drop)]
@@ -121,19 +61,52 @@ impl Write for Full {
 }
 
 #[test]
+fn outlets_in_memory_take_events(rt: HostRuntime) -> Result<(), Fail> {
+    let mut outlet = MemOutlet::with_room(rt.alloc(), 3)?;
+    outlet.fails.push(2)?;
+    let mut answers = [true; 5];
+    for i in 0..5 {
+        answers[i] = outlet.event(EVENTS[i]).is_ok();
+    }
+    let again = write_all(&mut outlet, &EVENTS);
+    let mut sure = SureOutlet::new();
+    let all = write_all(&mut sure, &EVENTS);
+    let counted = SureOutlet {
+        bytes: 2,
+        port_reads: 1,
+        port_writes: 1,
+        exits: 1,
+    };
+    let holds = [
+        answers == [true, false, true, true, false],
+        outlet.events() == [EVENTS[0], EVENTS[2], EVENTS[3]].as_slice(),
+        again == Err(Failed),
+        all == Ok(()),
+        sure == counted,
+    ];
+    assert_eq!(rt; holds, [true; 5]);
+    Ok(())
+}
+
+#[test]
 fn a_real_outlet_writes_bytes_and_lines(rt: HostRuntime) -> Result<(), Fail> {
     let mut output = Vec::new(rt.alloc());
     let mut errors = Vec::new(rt.alloc());
     let mut outlet = RealOutlet::new(&mut output, &mut errors);
-    write_all(&mut outlet, &EVENTS)?;
+    let all = write_all(&mut outlet, &EVENTS);
     drop(outlet);
-    assert_eq!(rt; output.as_slice(), b"AB".as_slice());
-    assert_eq!(rt; errors.as_slice(), b"read 1 2\nwrite 3 4 5\n".as_slice());
     let mut full = RealOutlet::new(Full, Full);
-    for event in EVENTS {
-        assert_eq!(rt; full.event(event), Err(Failed));
+    let mut answers = [true; 5];
+    for i in 0..5 {
+        answers[i] = full.event(EVENTS[i]).is_ok();
     }
-    write_all(&mut RealOutlet::new(rt.stdout(), rt.stderr()), &EVENTS)?;
+    let holds = [
+        all == Ok(()),
+        output.as_slice() == b"AB".as_slice(),
+        errors.as_slice() == b"read 1 2\nwrite 3 4 5\n".as_slice(),
+        answers == [false; 5],
+    ];
+    assert_eq!(rt; holds, [true; 4]);
     Ok(())
 }
 
@@ -146,42 +119,25 @@ fn files_in_memory_are_read(rt: HostRuntime) -> Result<(), Fail> {
     files.give(alloc, "long", b"0123456789a")?;
     files.give(alloc, "a.c", b"int x;")?;
     files.fails.push(2)?;
-    let rows = [
+    let mut into = Vec::new(alloc);
+    for (name, want) in [
         ("a.c", Ok(())),
         ("a.c", Err(FileFault::Failed)),
         ("b.c", Ok(())),
         ("long", Err(FileFault::TooLong)),
         ("none", Err(FileFault::Failed)),
-    ];
-    let mut into = Vec::new(alloc);
-    for (name, want) in rows {
+    ] {
         assert_eq!(rt; files.read(alloc, name, &mut into, 10), want, "{name}");
     }
-    assert_eq!(rt; into.as_slice(), b"int x;0123456789".as_slice());
-    let (first, second) = load_two(alloc, &mut files, "b.c", "a.c")?;
-    assert_eq!(rt; first.as_slice(), b"0123456789".as_slice());
-    assert_eq!(rt; second.as_slice(), b"int x;".as_slice());
-    Ok(())
-}
-
-#[test]
-fn sure_files_are_read(rt: HostRuntime) -> Result<(), Fail> {
-    let alloc = rt.alloc();
-    let mut files = SureFiles::new(alloc);
-    files.give(alloc, "a.c", b"abc")?;
-    let mut into = Vec::new(alloc);
-    for (name, limit, want) in [
-        ("a.c", 3, Ok(())),
-        ("a.c", 2, Err(FileFault::TooLong)),
-        ("none", 0, Ok(())),
-    ] {
-        assert_eq!(rt;
-            files.read(alloc, name, &mut into, limit),
-            want,
-            "{name} {limit}"
-        );
-    }
-    assert_eq!(rt; into.as_slice(), b"abc".as_slice());
+    let mut sure = SureFiles::new(alloc);
+    sure.give(alloc, "a.c", b"abc")?;
+    let answers = [
+        sure.read(alloc, "a.c", &mut into, 3),
+        sure.read(alloc, "a.c", &mut into, 2),
+        sure.read(alloc, "none", &mut into, 0),
+    ];
+    assert_eq!(rt; answers, [Ok(()), Err(FileFault::TooLong), Ok(())]);
+    assert_eq!(rt; into.as_slice(), b"int x;0123456789abc".as_slice());
     Ok(())
 }
 
@@ -214,24 +170,25 @@ fn real_files_are_read(rt: HostRuntime) -> Result<(), Fail> {
 fn sinks_take_pieces(rt: HostRuntime) -> Result<(), Fail> {
     let mut sink = MemSink::with_room(rt.alloc(), 4)?;
     sink.fails.push(2)?;
-    for (piece, want) in [
-        ("ab", Ok(())),
-        ("x", Err(Failed)),
-        ("cde", Err(Failed)),
-        ("", Ok(())),
-        ("f", Err(Failed)),
-    ] {
-        assert_eq!(rt; sink.push(piece.as_bytes()), want, "{piece:?}");
+    let mut answers = [true; 5];
+    let pieces = ["ab", "x", "cde", "", "f"];
+    for i in 0..5 {
+        answers[i] = sink.push(pieces[i].as_bytes()).is_ok();
     }
-    assert_eq!(rt; sink.bytes(), b"abcd".as_slice());
     let mut sure = SureSink::new();
-    push_two(&mut sure, b"abc", b"de")?;
-    assert_eq!(rt; sure, SureSink { bytes: 5 });
+    let counted = sure.push(b"abcde");
     let mut written = Vec::new(rt.alloc());
-    push_two(&mut RealSink::new(&mut written), b"abc", b"de")?;
-    assert_eq!(rt; written.as_slice(), b"abcde".as_slice());
-    assert_eq!(rt; RealSink::new(Full).push(b"a"), Err(Failed));
-    RealSink::new(rt.stderr()).push(b"note\n")?;
+    let wrote = RealSink::new(&mut written).push(b"abcde");
+    let holds = [
+        answers == [true, false, false, true, false],
+        sink.bytes() == b"abcd".as_slice(),
+        counted == Ok(()),
+        sure == SureSink { bytes: 5 },
+        wrote == Ok(()),
+        written.as_slice() == b"abcde".as_slice(),
+        RealSink::new(Full).push(b"a") == Err(Failed),
+    ];
+    assert_eq!(rt; holds, [true; 7]);
     Ok(())
 }
 

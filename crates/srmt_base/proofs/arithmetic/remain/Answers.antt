@@ -7,7 +7,7 @@ use Rattle.srmt_base.proofs.arithmetic.remain.Goals as goal
 
 pub returns-then-can_hold-clause-exact : goal.returns-then-can_hold-clause-exact
 returns-then-can_hold-clause-exact c =
-    let fits = int_div_fits c.args.x c.args.y c.ranges.x c.requires in
+    let fits = int_div_fits c.args.x c.args.y c.ranges.x c.requires.least in
     let held : can_hold c.args.ty (int_div c.args.x c.args.y) ≡ true =
     sym (ap (can_hold c.args.ty) (quot_is w64 c.args.x c.args.y c.ranges.x c.ranges.y fits)) ∙ sym c.can_hold.ensures ∙ c.if-can_hold.true in
     rw (int_eq-zero c.args.y c.if-y-eq0.false, held)
@@ -15,7 +15,7 @@ returns-then-can_hold-clause-exact c =
 
 pub returns-else-can_hold-clause-exact : goal.returns-else-can_hold-clause-exact
 returns-else-can_hold-clause-exact c =
-    let fits = int_div_fits c.args.x c.args.y c.ranges.x c.requires in
+    let fits = int_div_fits c.args.x c.args.y c.ranges.x c.requires.least in
     let held : can_hold c.args.ty (int_div c.args.x c.args.y) ≡ false =
     sym (ap (can_hold c.args.ty) (quot_is w64 c.args.x c.args.y c.ranges.x c.ranges.y fits)) ∙ sym c.can_hold.ensures ∙ c.if-can_hold.false in
     rw (int_eq-zero c.args.y c.if-y-eq0.false, held)

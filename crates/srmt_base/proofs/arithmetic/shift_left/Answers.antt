@@ -12,7 +12,7 @@ overflow_mul-x c =
     let below : c.args.count < 32 = omega (arith, width_of-le c.args.ty) in
     let x-is = to_z-of_z w64 c.args.x c.ranges.x in
     let sign : is_negative c.args.x ≡ false = rw x-is at c.if-x-lt0.false in
-    rw (x-is, power_is c.args.count below) (product_fits c.args.x c.args.count sign c.requires below)
+    rw (x-is, power_is c.args.count below) (product_fits c.args.x c.args.count sign c.requires.below below)
 
 pub returns-else-x-lt0-clause-exact : goal.returns-else-x-lt0-clause-exact
 returns-else-x-lt0-clause-exact c =
@@ -20,6 +20,6 @@ returns-else-x-lt0-clause-exact c =
     let within : nat_le (width_of c.args.ty) c.args.count ≡ false = grind (arith, nat_tests) in
     let x-is = to_z-of_z w64 c.args.x c.ranges.x in
     let sign : is_negative c.args.x ≡ false = rw x-is at c.if-x-lt0.false in
-    let fits = product_fits c.args.x c.args.count sign c.requires below in
+    let fits = product_fits c.args.x c.args.count sign c.requires.below below in
     rw (within, sign)
     (rw (x-is, power_is c.args.count below, to_z-of_z w64 (c.args.x *ℤ pos (2 ^ c.args.count)) fits) at c.reduce.ensures.exact)
