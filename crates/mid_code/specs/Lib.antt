@@ -1,13 +1,14 @@
 pub mod Program
 pub mod Registers
-pub mod Operands
-pub mod OperandRows
+pub mod Fields
+pub mod Ways
 pub mod Flow
 pub mod Row
 pub mod Rules
 pub mod Valid
 pub mod Machine
 pub mod Classes
+pub mod Closed
 pub mod Versions
 pub mod Pairs
 pub mod Fits

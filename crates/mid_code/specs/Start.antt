@@ -5,7 +5,7 @@ use Rattle.srmt_base.specs.Objects.{Object, Objects}
 use Rattle.srmt_base.specs.Memory.{Memory, Part, Protected, Binary, first_number}
 use Rattle.mid_code.specs.declared.program.MidProgram.{MidProgram}
 use Rattle.mid_code.specs.declared.program.MidFunction.{MidFunction}
-use Rattle.mid_code.specs.declared.program.Static.{Static}
+use Rattle.srmt_base.specs.declared.statics.Static.{Static}
 use Rattle.mid_code.specs.Program.{function_at}
 use Rattle.mid_code.specs.Machine.{Activation, Budget, Machine, activation_of, spent}
 

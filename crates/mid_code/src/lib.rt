@@ -8,11 +8,11 @@
 
 mod access;
 mod class;
+mod field;
 mod flow;
 mod laws;
 mod limits;
 mod mid;
-mod operands;
 mod pair;
 mod program;
 mod refusal;
@@ -20,17 +20,20 @@ mod registers;
 mod rules;
 mod validity;
 mod version;
+mod way;
 
 pub use access::Access;
-pub use class::Class;
+pub use class::{Class, Shared};
+pub use field::{Field, Wanted, fields};
 pub use laws::{budgets_are_exact, is_bounded, is_determined, is_never_stuck, values_stay_small};
 pub use mid::Mid;
 pub use pair::{Classed, Pair};
-pub use program::{FunType, MidFunction, MidLine, MidProgram, RegisterKind, Static};
+pub use program::{FunType, MidFunction, MidLine, MidProgram, RegisterKind};
 pub use refusal::MidRefusal;
 pub use registers::Registers;
 pub use validity::valid;
-pub use version::{Asks, Version, VersionLine, VersionOp};
+pub use version::{Operands, Version, VersionLine, VersionOp};
+pub use way::{Way, way_of};
 
 #[cfg(test)]
 mod tests;
