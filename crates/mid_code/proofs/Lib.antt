@@ -4,7 +4,6 @@ pub mod KindLemmas
 pub mod Passing
 pub mod RowLemmas
 pub mod FlowLemmas
-pub mod OperandLemmas
 pub mod Keeping
 pub mod Runs
 pub mod Fetching

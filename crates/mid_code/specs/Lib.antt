@@ -6,6 +6,7 @@ pub mod Flow
 pub mod Row
 pub mod Rules
 pub mod Valid
+pub mod WellFormed
 pub mod Machine
 pub mod Classes
 pub mod Closed

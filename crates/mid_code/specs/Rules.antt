@@ -233,8 +233,8 @@ misfits_at program number function place mid =
 -- the least rule that an instruction breaks at its place, but for the order of open objects, and with it
 unfoldable pub early_rule : MidProgram → ℕ → MidFunction → ℕ → Mid → Option ℕ
 early_rule program number function place mid =
-    option_or (fields_rule program function place (fields mid))
-    (option_or (broken 6 (runs_out function.code place mid)) (broken 7 (misfits_at program number function place mid)))
+    option_or (option_or (fields_rule program function place (fields mid)) (broken 6 (runs_out function.code place mid)))
+    (broken 7 (misfits_at program number function place mid))
 
 abbrev pub instruction_rule : MidProgram → ℕ → MidFunction → ℕ → Mid → Option ℕ
 instruction_rule program number function place mid =

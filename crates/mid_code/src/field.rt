@@ -1,5 +1,5 @@
 ghost use Rattle.std.specs.Prelude.{◌≡◌, [], ◌∷◌};
-ghost use Rattle.mid_code.specs.Fields.{fields, present};
+ghost use Rattle.mid_code.specs.Fields.{Writes, Reads, fields, present};
 
 use crate::mid::Mid;
 use crate::program::RegisterKind;

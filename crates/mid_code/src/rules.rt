@@ -1,4 +1,4 @@
-ghost use Rattle.std.specs.Prelude.{◌≡◌, ℕ, ◌<◌, ◌≤◌, length, slice_get, Some};
+ghost use Rattle.std.specs.Prelude.{◌≡◌, ℕ, ◌<◌, ◌≤◌, length, slice_get, Some, option_and_then};
 ghost use Rattle.std.specs.List.{list_any};
 ghost use Rattle.mid_code.specs.Registers.{registers_list};
 ghost use Rattle.mid_code.specs.Fields.{present};
@@ -191,6 +191,21 @@ fn lesser(first: Option<u8>, second: Option<u8>) -> Option<u8>
     }
 }
 
+/// The same of a field that may be there.
+fn item_rule(
+    program: &MidProgram,
+    function: &MidFunction,
+    place: usize,
+    item: &Option<Field>,
+) -> Option<u8>
+    ensures { result ≡ option_and_then (field_rule program.now function.now place) item.now }
+{
+    match item {
+        Some(field) => field_rule(program, function, place, field),
+        None => None,
+    }
+}
+
 /// The least rule that one of some fields breaks.
 pub fn fields_rule(
     program: &MidProgram,
@@ -202,9 +217,7 @@ pub fn fields_rule(
 {
     let mut least = None;
     for item in row {
-        if let Some(field) = item {
-            least = lesser(least, field_rule(program, function, place, field));
-        }
+        least = lesser(least, item_rule(program, function, place, item));
     }
     least
 }

@@ -37,13 +37,9 @@ fn early_rule(
     ensures { result ≡ early_rule program.now number function.now place mid.now }
 {
     let of_fields = fields_rule(program, function, place, &fields(mid));
-    if of_fields.is_some() {
-        return of_fields;
-    }
-    if runs_out(function.code.as_slice(), place, mid) {
-        return Some(6);
-    }
-    broken(7, misfits_at(program, number, function, place, mid))
+    let last = runs_out(function.code.as_slice(), place, mid);
+    let unfit = misfits_at(program, number, function, place, mid);
+    of_fields.or(broken(6, last)).or(broken(7, unfit))
 }
 
 /// The least rule that the instruction at a place breaks. Where it breaks none, the row has come
