@@ -12,7 +12,7 @@ use Rattle.srmt_base.specs.Arith.{is_comparison}
 use Rattle.mid_code.specs.declared.program.RegisterKind.{RegisterKind}
 use Rattle.mid_code.specs.declared.program.RegisterKind.TheVariants.{Number, Address}
 use Rattle.mid_code.specs.declared.program.FunType.{FunType}
-use Rattle.mid_code.specs.declared.program.Static.{Static}
+use Rattle.srmt_base.specs.declared.statics.Static.{Static}
 use Rattle.mid_code.specs.declared.program.MidLine.{MidLine}
 use Rattle.mid_code.specs.declared.program.MidFunction.{MidFunction}
 use Rattle.mid_code.specs.declared.program.MidProgram.{MidProgram}
