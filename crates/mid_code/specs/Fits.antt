@@ -1,5 +1,6 @@
 -- A run that stands within its program: what every state of a run of a valid program is like.
 use Rattle.std.specs.Prelude.{ℕ, ◌≡◌, ◌+◌, ◌^◌, ◌<◌, ◌≤◌, List, [], ◌∷◌, length, map, Some, All}
+use Rattle.srmt_base.specs.declared.budgets.Budgets.{Budgets}
 use Rattle.srmt_base.specs.declared.part.Part.{Part}
 use Rattle.srmt_base.specs.declared.part.Part.TheVariants.{Protected, Binary}
 use Rattle.srmt_base.specs.Budgets.{budget_of}
@@ -33,9 +34,14 @@ AreBelow program above [] = above.function ≡ program.main
 AreBelow program above (caller ∷ rest) = (above.into < length caller.registers) × IsWithin program caller × AreBelow program caller rest
 
 -- what is left to a part, and its live activations with it, are no more than fitting limits allow
-pub record IsLeft (program : MidProgram) (part : Part) (m : Machine) : Type 0 where
-  pub turns : (budget_of part m.budgets).turns ≤ 10 ^ 12
-  pub depth : live_of program part (activations m) + (budget_of part m.budgets).depth ≤ 1000
+pub record IsLeft (program : MidProgram) (part : Part) (live : List Activation) (budgets : Budgets) : Type 0 where
+  pub turns : (budget_of part budgets).turns ≤ 10 ^ 12
+  pub depth : live_of program part live + (budget_of part budgets).depth ≤ 1000
+
+-- the same of both parts
+pub record AreLeft (program : MidProgram) (live : List Activation) (budgets : Budgets) : Type 0 where
+  pub protected : IsLeft program Protected live budgets
+  pub binary : IsLeft program Binary live budgets
 
 -- the cells of an object hold values
 abbrev pub HoldsValues : Object → Type 0
@@ -59,8 +65,7 @@ pub record IsPart (part : Part) (objects : Objects) : Type 0 where
 pub record IsMachine (program : MidProgram) (m : Machine) : Type 0 where
   pub top : IsWithin program m.top
   pub below : AreBelow program m.top m.below
-  pub protected_left : IsLeft program Protected m
-  pub binary_left : IsLeft program Binary m
+  pub left : AreLeft program (activations m) m.budgets
 
 pub record IsMemory (memory : Memory) : Type 0 where
   pub protected : IsPart Protected memory.protected
