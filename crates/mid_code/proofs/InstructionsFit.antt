@@ -77,7 +77,7 @@ abbrev places : Activation → List ℕ
 places a = map (λ o. o.place) a.opened
 
 -- a place of the code with what is open there
-at_place : (program : MidProgram) (a : Activation) (w : IsWithin program a) (place : ℕ) (registers : List ℕ) (opened : List Opened) →
+pub at_place : (program : MidProgram) (a : Activation) (w : IsWithin program a) (place : ℕ) (registers : List ℕ) (opened : List Opened) →
     place < length w.code.code → length registers ≡ length a.registers → All IsValue registers →
     found_at w.code.code place ≡ Some (map (λ o. o.place) opened) →
     IsWithin program (record a { place = place; registers = registers; opened = opened })
