@@ -22,3 +22,8 @@ pub mod StartFits
 pub mod RunsEnd
 pub mod ValuesSmall
 pub mod SizesBounded
+pub mod OtherTraps
+pub mod InstructionsCounted
+pub mod StoreTraps
+pub mod BudgetsKept
+pub mod BudgetsExact

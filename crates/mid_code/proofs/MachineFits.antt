@@ -27,7 +27,7 @@ pub below_same : (program : MidProgram) (a b : Activation) (rest : List Activati
 below_same program a b [] function into h = sym function ∙ h
 below_same program a b (caller ∷ rest) function into h = (subst (λ r. r < length caller.registers) into h.0, h.1, h.2)
 
-live_same : (program : MidProgram) (part : Part) (a b : Activation) (rest : List Activation) → a.function ≡ b.function →
+pub live_same : (program : MidProgram) (part : Part) (a b : Activation) (rest : List Activation) → a.function ≡ b.function →
     live_of program part (a ∷ rest) ≡ live_of program part (b ∷ rest)
 live_same program part a b rest e = ap (λ f. one_if part (part_of_function program f) + live_of program part rest) e
 
@@ -111,7 +111,7 @@ entry_cases program function f args into callers budgets found P enters refuses 
     (entry_by_cases f.line (activation_of function f args into) callers P (enter_of (part_of_function program function) budgets) enters refuses)
 
 -- one live activation more
-live_more : (program : MidProgram) (part own : Part) (a : Activation) (rest : List Activation) → part_of_function program a.function ≡ own →
+pub live_more : (program : MidProgram) (part own : Part) (a : Activation) (rest : List Activation) → part_of_function program a.function ≡ own →
     live_of program part (a ∷ rest) ≡ one_if part own + live_of program part rest
 live_more program part own a rest e = ap (λ p. one_if part p + live_of program part rest) e
 
