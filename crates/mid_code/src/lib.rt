@@ -25,12 +25,16 @@ mod way;
 pub use access::Access;
 pub use class::{Class, Shared};
 pub use field::{Field, Wanted, fields};
-pub use laws::{budgets_are_exact, is_bounded, is_determined, is_never_stuck, values_stay_small};
+pub use laws::{
+    budgets_are_exact, is_bounded, is_determined, is_never_stuck, keeping_is_decided,
+    main_is_entered, steps_near_the_end, values_stay_small,
+};
 pub use mid::Mid;
 pub use pair::{Classed, Pair};
 pub use program::{FunType, MidFunction, MidLine, MidProgram, RegisterKind};
 pub use refusal::MidRefusal;
 pub use registers::Registers;
+pub use srmt_base::Static;
 pub use validity::valid;
 pub use version::{Operands, Version, VersionLine, VersionOp};
 pub use way::{Way, way_of};

@@ -1,27 +1,33 @@
--- The start of a run fits its program.
-use Rattle.std.proofs.Common.{◌≡◌, ℕ, ◌+◌, ◌-◌, ◌<◌, ◌≤◌, ◌^◌, List, [], ◌∷◌, length, Option, Some, None, false, refl, sym, ap, subst, arith}
-use Rattle.std.specs.Prelude.{All, ◌==◌, ◌||◌, nat_lt, nat_le, replicate, sum_by}
+-- The start of a run is the entry of `main`, and fits its program.
+use Rattle.std.proofs.Common.{◌≡◌, ℕ, ◌+◌, ◌-◌, ◌<◌, ◌≤◌, ◌^◌, List, [], ◌∷◌, length, Option, Some, None, Result, Ok, Err, Bool, true, false, refl, sym, ap, ◌∙◌, subst, arith}
+use Rattle.std.specs.Prelude.{All, if◌then◌else◌, ◌==◌, ◌||◌, nat_lt, nat_le, replicate, sum_by}
 use Rattle.std.specs.List.{list_any}
-use Rattle.std.proofs.lemmas.Bool.{ltb-false, leb-false, le-leb}
+use Rattle.std.proofs.lemmas.Bool.{ltb-false, leb-false, le-leb, ne_eqb}
 use Rattle.std.proofs.lemmas.List.{length-append, length-replicate}
 use Rattle.std.proofs.lemmas.List.Elements.{All-append, All-replicate, All-cons, All-nil}
 use Rattle.std.proofs.lemmas.List.Sums.{sum_by-cons}
 use Rattle.srmt_base.specs.declared.limits.Limits.{Limits}
 use Rattle.srmt_base.specs.Objects.{Object}
-use Rattle.srmt_base.specs.Memory.{Part, Protected, Binary, part_if, first_number, last_number}
-use Rattle.mid_code.specs.declared.program.Static.{Static}
+use Rattle.srmt_base.specs.declared.budgets.Budgets.{Budgets}
+use Rattle.srmt_base.specs.declared.part.Part.{Part}
+use Rattle.srmt_base.specs.declared.part.Part.TheVariants.{Protected, Binary}
+use Rattle.srmt_base.specs.declared.statics.Static.{Static}
+use Rattle.srmt_base.specs.declared.trap.Trap.TheVariants.{Turns, Depth}
+use Rattle.srmt_base.specs.Budgets.{full_budget, full_budgets, spent, with_result, enter_of}
+use Rattle.srmt_base.specs.Memory.{part_if, first_number, last_number}
+use Rattle.srmt_base.specs.Statics.{static_cells, static_object, static_objects, started_objects}
 use Rattle.mid_code.specs.declared.program.MidFunction.{MidFunction}
 use Rattle.mid_code.specs.declared.program.MidProgram.{MidProgram}
 use Rattle.mid_code.specs.Program.{function_at}
 use Rattle.mid_code.specs.Rules.{is_bad_static, has_bad_statics}
 use Rattle.mid_code.specs.Valid.{IsValid}
-use Rattle.mid_code.specs.Machine.{Machine, activation_of, spent, part_of_function, one_if, live_of}
-use Rattle.mid_code.specs.Start.{static_cells, FitLimits, static_object, static_objects, started_objects, started_memory, full_budget, main_activation, started_machine}
+use Rattle.mid_code.specs.Machine.{Activation, Machine, Entry, Entered, activation_of, entry_by, entry_in, part_of_function, one_if, live_of}
+use Rattle.mid_code.specs.Start.{FitLimits, started_memory, main_activation, started_machine}
 use Rattle.mid_code.specs.Meaning.{started}
 use Rattle.mid_code.specs.Fits.{IsValue, HoldsValues, AreRising, IsWithin, IsPart, IsMemory, IsMachine, Fits, open_count}
 use Rattle.mid_code.proofs.Keeping.{neither}
-use Rattle.mid_code.proofs.Values.{first_registers}
-use Rattle.mid_code.proofs.Flowing.{none_at_start}
+use Rattle.mid_code.specs.Laws.{EntersMain}
+use Rattle.mid_code.proofs.MachineFits.{begins}
 use Rattle.mid_code.proofs.Naming.{KeepsProgram, not_zero, main_found, whole, few_statics, function_kept}
 
 -- what the tests of a static object say
@@ -93,19 +99,6 @@ memory_started program limits k fit = record {
   binary = started_part Binary program.binary_statics limits.cells k.binary_statics fit.binary_cells fit.cells (omega arith);
 }
 
-main_within : (program : MidProgram) (f : MidFunction) → IsValid program → function_at program program.main ≡ Some f → IsWithin program (activation_of program.main f 0 [])
-main_within program f valid found =
-    let k = function_kept program program.main f valid found in
-    let rs = first_registers [] (length f.kinds) (omega arith) (All-nil IsValue) in
-    record {
-      code = f;
-      found = found;
-      place = omega (arith, k.long);
-      registers = rs.0;
-      each = rs.1;
-      opened = none_at_start f.code;
-    }
-
 -- `main` is a function of the main file
 pub main_part : (program : MidProgram) → KeepsProgram program → part_of_function program program.main ≡ Protected
 main_part program k = ap part_if (le-leb program.main program.main_functions k.main)
@@ -118,18 +111,20 @@ main_function program (Some f) = refl
 -- the machine at the start, by the code of `main`
 abbrev pub with_main : MidProgram → Limits → Option MidFunction → Machine
 with_main program limits f =
-    record { top = main_activation program f; below = []; protected = spent (full_budget limits); binary = full_budget limits }
+    record { top = main_activation program f; below = []; budgets = record { protected = spent (full_budget limits); binary = full_budget limits } }
 
 machine_with_main : (program : MidProgram) (limits : Limits) (f : MidFunction) → IsValid program → FitLimits program limits → function_at program program.main ≡ Some f → IsMachine program (with_main program limits (Some f))
 machine_with_main program limits f valid fit found =
     let own = main_part program (whole program valid) in
-    let one : live_of program Protected (activation_of program.main f 0 [] ∷ []) ≡ 1 = ap (λ p. one_if Protected p + 0) own in
-    let none : live_of program Binary (activation_of program.main f 0 [] ∷ []) ≡ 0 = ap (λ p. one_if Binary p + 0) own in
+    let one : live_of program Protected (activation_of program.main f [] 0 ∷ []) ≡ 1 = ap (λ p. one_if Protected p + 0) own in
+    let none : live_of program Binary (activation_of program.main f [] 0 ∷ []) ≡ 0 = ap (λ p. one_if Binary p + 0) own in
     record {
-      top = main_within program f valid found;
+      top = begins program program.main f [] 0 valid found (omega arith) (All-nil IsValue);
       below = refl;
-      protected_left = record { turns = omega (arith, fit.turns); depth = omega (arith, one, fit.some_depth, fit.depth) };
-      binary_left = record { turns = fit.turns; depth = omega (arith, none, fit.depth) };
+      left = record {
+        protected = record { turns = omega (arith, fit.turns); depth = omega (arith, one, fit.some_depth, fit.depth) };
+        binary = record { turns = fit.turns; depth = omega (arith, none, fit.depth) };
+      };
     }
 
 pub machine_started : (program : MidProgram) (limits : Limits) → IsValid program → FitLimits program limits → IsMachine program (started_machine program limits)
@@ -148,3 +143,22 @@ fits_started program input limits valid fit bytes = record {
   input = bytes;
   opened = omega (arith, none_open program (function_at program program.main));
 }
+
+-- fitting limits have a turn and an activation for `main`
+entered_by_tests : (line : ℕ) (a : Activation) (limits : Limits) (deep used : Bool) → deep ≡ false → used ≡ false →
+    entry_by line a [] (with_result Protected (full_budgets limits) (if deep then Err Depth else if used then Err Turns else Ok (spent (full_budget limits))))
+    ≡ Entered (record { top = a; below = []; budgets = record { protected = spent (full_budget limits); binary = full_budget limits } })
+entered_by_tests line a limits true used d u = absurd (cc)
+entered_by_tests line a limits false true d u = absurd (cc)
+entered_by_tests line a limits false false d u = refl
+
+pub enters_main : (program : MidProgram) (limits : Limits) → IsValid program → FitLimits program limits → EntersMain program limits
+enters_main program limits valid fit =
+    let main = main_found program (whole program valid) in
+    let own = main_part program (whole program valid) in
+    let callee = activation_of program.main main.0 [] 0 in
+    ap (λ f. entry_in program program.main f [] 0 [] (full_budgets limits)) main.1
+    ∙ ap (λ p. entry_by main.0.line callee [] (enter_of p (full_budgets limits))) own
+    ∙ entered_by_tests main.0.line callee limits (limits.depth == 0) (limits.turns == 0)
+    (ne_eqb limits.depth 0 (λ e. omega (arith, e, fit.some_depth))) (ne_eqb limits.turns 0 (λ e. omega (arith, e, fit.some_turns)))
+    ∙ ap (λ f. Entered (with_main program limits f)) (sym main.1)

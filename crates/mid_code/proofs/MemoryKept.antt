@@ -1,14 +1,16 @@
 -- Memory as a whole after each access: it keeps its numbers and values, and so many objects live.
 use Rattle.std.proofs.Common.{◌≡◌, ℕ, ◌+◌, ◌<◌, ◌≤◌, List, [], ◌∷◌, length, Result, Ok, Err, Bool, true, false, refl, arith}
-use Rattle.std.specs.Prelude.{IfOk, ◌||◌, not, ◌==◌, nat_lt, if◌then◌else◌, filter, replicate}
+use Rattle.std.specs.Prelude.{IfOk, not, ◌==◌, nat_lt, if◌then◌else◌, filter, replicate}
 use Rattle.std.proofs.lemmas.Bool.{ltb-false, eqb-true, ne_eqb}
 use Rattle.std.proofs.lemmas.List.{length-map, length-append}
 use Rattle.srmt_base.specs.declared.trap.Trap.{Trap}
 use Rattle.srmt_base.specs.declared.trap.Trap.TheVariants.{Store}
 use Rattle.srmt_base.specs.Objects.{Object, Objects, pointer_to, access_of, if_passed, written_in, written, begun, end_of, live_cells}
-use Rattle.srmt_base.specs.Memory.{Memory, Part, Protected, Binary, first_number, last_number, objects_of, with_objects, part_of_number, part_of, changed, write_of, next_number, begin_of, finish_of}
+use Rattle.srmt_base.specs.declared.part.Part.{Part}
+use Rattle.srmt_base.specs.declared.part.Part.TheVariants.{Protected, Binary}
+use Rattle.srmt_base.specs.Memory.{Memory, first_number, last_number, objects_of, with_objects, part_of_number, part_of, changed, write_of, next_number, begun_if, begin_of, finish_of}
 use Rattle.mid_code.specs.Fits.{IsValue, AreRising, IsPart, IsMemory}
-use Rattle.mid_code.proofs.Remembering.{part_of_memory, written_part, begun_part, ended_part}
+use Rattle.mid_code.proofs.PartsKept.{part_of_memory, written_part, begun_part, ended_part}
 
 -- how many objects live
 abbrev pub live_count : Memory → ℕ
@@ -47,24 +49,30 @@ last_small : (part : Part) (number : ℕ) → number ≤ last_number part → Is
 last_small Protected number h = omega arith
 last_small Binary number h = omega arith
 
-began_by : (memory : Memory) (part : Part) (cells : ℕ) → IsMemory memory → 1 ≤ cells → (b c d : Bool) → nat_lt (last_number part) (next_number part memory) ≡ b → nat_lt (next_number part memory) (next_number part memory) ≡ c → nat_lt (objects_of part memory).budget (live_cells (objects_of part memory) + cells) ≡ d →
-    IfOk (if b then Err Store else changed part memory (if c || d then Err Store else Ok (begun (objects_of part memory) (next_number part memory) cells false))) (AfterBegin part memory)
-began_by memory part cells h some true c d last same room = tt
-began_by memory part cells h some false true d last same room = tt
-began_by memory part cells h some false false true last same room = tt
-began_by memory part cells h some false false false last same room =
+began_by : (memory : Memory) (part : Part) (cells : ℕ) → IsMemory memory → 1 ≤ cells → (used full : Bool) →
+    nat_lt (last_number part) (next_number part memory) ≡ used → nat_lt (objects_of part memory).budget (live_cells (objects_of part memory) + cells) ≡ full →
+    IfOk (changed part memory (begun_if (if used then Err Store else if full then Err Store else Ok (record {
+        fresh = (objects_of part memory).fresh + 1;
+        cells = live_cells (objects_of part memory) + cells;
+        budget = (objects_of part memory).budget;
+      })) (objects_of part memory) cells)) (AfterBegin part memory)
+began_by memory part cells h some true full last room = tt
+began_by memory part cells h some false true last room = tt
+began_by memory part cells h some false false last room =
     let s = objects_of part memory in
     let low = ltb-false (last_number part) s.fresh last in
     let new : Object = record { number = s.fresh; cells = replicate cells 0; read_only = false } in
     record {
-      kept = with_part memory part (begun s s.fresh cells false) h (begun_part part s cells some low (ltb-false s.budget (live_cells s + cells) room) (part_of_memory memory part h));
+      kept = with_part memory part (begun s s.fresh cells false) h
+          (begun_part part s cells some low (ltb-false s.budget (live_cells s + cells) room) (part_of_memory memory part h));
       count = omega (arith, count_with memory part (begun s s.fresh cells false), length-append s.live (new ∷ []));
       small = last_small part s.fresh low;
     }
 
 pub began : (memory : Memory) (part : Part) (cells : ℕ) → IsMemory memory → 1 ≤ cells → IfOk (begin_of part memory cells) (AfterBegin part memory)
 began memory part cells h some =
-    began_by memory part cells h some (nat_lt (last_number part) (next_number part memory)) (nat_lt (next_number part memory) (next_number part memory)) (nat_lt (objects_of part memory).budget (live_cells (objects_of part memory) + cells)) refl refl refl
+    let s = objects_of part memory in
+    began_by memory part cells h some (nat_lt (last_number part) s.fresh) (nat_lt s.budget (live_cells s + cells)) refl refl
 
 -- after an object has ended: one object less lives at most
 none_removed : (number least : ℕ) (objects : List Object) (fresh : ℕ) → number < least → AreRising least objects fresh → length (filter (λ object. not (object.number == number)) objects) ≡ length objects

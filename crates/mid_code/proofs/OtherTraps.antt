@@ -13,7 +13,8 @@ use Rattle.srmt_base.specs.Types.{is_signed, can_hold, value_at, width_of}
 use Rattle.srmt_base.specs.Arith.{arith_of, reduced, shifted_left, bits_at}
 use Rattle.srmt_base.specs.Pointer.{amount_of, pointer_sum_of, pointer_difference_of, pointer_comparison_of, is_equality, is_offset}
 use Rattle.srmt_base.specs.Objects.{Object, Objects, object_part, offset_part, live_at, access_in, access_of, if_passed, put_of, begun, add_of, live_cells, written}
-use Rattle.srmt_base.specs.Memory.{Memory, Part, objects_of, last_number, part_of, changed, read_of, write_of, next_number, begin_of}
+use Rattle.srmt_base.specs.declared.part.Part.{Part}
+use Rattle.srmt_base.specs.Memory.{Memory, Count, objects_of, last_number, part_of, count_of, draw_of, changed, begun_if, begin_in, read_of, write_of, begin_of}
 
 -- a trap that is no budget's
 abbrev pub IsOther : Trap → Type 0
@@ -94,16 +95,21 @@ write_other memory pointer value =
     changed_other (part_of pointer) memory (put_of s pointer value) (passed_other (λ _. written s pointer value) (access_of true s pointer) (access_other true s pointer))
 
 -- beginning an object traps by the budget of cells or of numbers alone
-add_store : {A : Type 0} (b : Bool) (x : A) → IfErr (if b then Err Store else Ok x) (λ trap. trap ≡ Store)
-add_store true x = refl
-add_store false x = tt
+abbrev IsStore : Trap → Type 0
+IsStore trap = trap ≡ Store
 
-begin_store_by : (part : Part) (memory : Memory) (b : Bool) (r : Result Objects Trap) → IfErr r (λ trap. trap ≡ Store) → IfErr (if b then Err Store else changed part memory r) (λ trap. trap ≡ Store)
-begin_store_by part memory true r h = refl
-begin_store_by part memory false (Ok objects) h = tt
-begin_store_by part memory false (Err trap) h = h
+drawn_store : (used full : Bool) (count : Count) → IfErr (if used then Err Store else if full then Err Store else Ok count) IsStore
+drawn_store true full count = refl
+drawn_store false true count = refl
+drawn_store false false count = tt
 
-pub begin_store : (memory : Memory) (part : Part) (cells : ℕ) → IfErr (begin_of part memory cells) (λ trap. trap ≡ Store)
+begun_store : (part : Part) (memory : Memory) (s : Objects) (cells : ℕ) (r : Result Count Trap) → IfErr r IsStore → IfErr (changed part memory (begun_if r s cells)) IsStore
+begun_store part memory s cells (Ok count) h = tt
+begun_store part memory s cells (Err trap) h = h
+
+pub begin_store : (memory : Memory) (part : Part) (cells : ℕ) → IfErr (begin_of part memory cells) IsStore
 begin_store memory part cells =
     let s = objects_of part memory in
-    begin_store_by part memory (nat_lt (last_number part) (next_number part memory)) (add_of s s.fresh cells false) (add_store (nat_lt s.fresh s.fresh || nat_lt s.budget (live_cells s + cells)) (begun s s.fresh cells false))
+    begun_store part memory s cells (draw_of part (count_of s) cells)
+    (drawn_store (nat_lt (last_number part) s.fresh) (nat_lt s.budget (live_cells s + cells))
+      (record { fresh = s.fresh + 1; cells = live_cells s + cells; budget = s.budget }))

@@ -1,4 +1,4 @@
--- Memory keeps its numbers and its values through each access.
+-- A part of memory keeps its numbers and its values through each access.
 use Rattle.std.proofs.Common.{◌≡◌, ℕ, ◌+◌, ◌≤◌, List, [], ◌∷◌, ◌++◌, length, Option, Some, None, Result, Ok, Err, Bool, true, false, refl, subst, arith}
 use Rattle.std.specs.Prelude.{All, IfOk, ◌&&◌, not, ◌==◌, nat_le, if◌then◌else◌, map, filter, find, sum_by, replicate, slice_index, slice_set}
 use Rattle.std.proofs.lemmas.List.{length-set, length-replicate}
@@ -7,7 +7,9 @@ use Rattle.std.proofs.lemmas.List.Elements.{All-filter, All-set, All-map, All-pu
 use Rattle.srmt_base.specs.declared.trap.Trap.{Trap}
 use Rattle.srmt_base.specs.declared.trap.Trap.TheVariants.{NullPointer, OutsideObject, ReadOnly}
 use Rattle.srmt_base.specs.Objects.{Object, Objects, object_part, offset_part, live_at, access_in, access_of, if_passed, written_in, written, begun, end_of, live_cells}
-use Rattle.srmt_base.specs.Memory.{Memory, Part, Protected, Binary, first_number, last_number, objects_of, part_of, read_of}
+use Rattle.srmt_base.specs.declared.part.Part.{Part}
+use Rattle.srmt_base.specs.declared.part.Part.TheVariants.{Protected, Binary}
+use Rattle.srmt_base.specs.Memory.{Memory, first_number, last_number, objects_of, part_of, read_of}
 use Rattle.mid_code.specs.Fits.{IsValue, HoldsValues, AreRising, IsPart, IsMemory}
 use Rattle.mid_code.proofs.Values.{read_small}
 

@@ -4,7 +4,8 @@ use Rattle.std.specs.Prelude.{All, sum_by}
 use Rattle.std.proofs.lemmas.List.Elements.{All-head, All-tail}
 use Rattle.std.proofs.lemmas.List.Sums.{sum_by-cons}
 use Rattle.srmt_base.specs.Objects.{Object, Objects}
-use Rattle.srmt_base.specs.Memory.{Part, Protected, Binary}
+use Rattle.srmt_base.specs.declared.part.Part.{Part}
+use Rattle.srmt_base.specs.declared.part.Part.TheVariants.{Protected, Binary}
 use Rattle.mid_code.specs.declared.program.MidProgram.{MidProgram}
 use Rattle.mid_code.specs.Machine.{Activation, Machine, activations, one_if, live_of, part_of_function}
 use Rattle.mid_code.specs.Meaning.{State}
@@ -20,8 +21,8 @@ live-both program [] = refl
 live-both program (a ∷ rest) = omega (arith, live-both program rest, one_part (part_of_function program a.function))
 
 -- the live activations, with those that may still begin
-pub few_activations : (program : MidProgram) (m : Machine) → IsMachine program m → length (activations m) + m.protected.depth + m.binary.depth ≤ 2000
-few_activations program m h = omega (arith, live-both program (activations m), h.protected_left.depth, h.binary_left.depth)
+pub few_activations : (program : MidProgram) (m : Machine) → IsMachine program m → length (activations m) + m.budgets.protected.depth + m.budgets.binary.depth ≤ 2000
+few_activations program m h = omega (arith, live-both program (activations m), h.left.protected.depth, h.left.binary.depth)
 
 -- each object has a cell
 few_by : (objects : List Object) → All (λ object. 1 ≤ length object.cells) objects → length objects ≤ sum_by (λ object. length object.cells) objects
