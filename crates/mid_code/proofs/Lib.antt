@@ -26,3 +26,4 @@ pub mod InstructionsCounted
 pub mod StoreTraps
 pub mod BudgetsKept
 pub mod BudgetsExact
+pub mod KeepingDecided

@@ -67,6 +67,11 @@ goes_on program valid zero s fits = (omega arith, omega arith)
 goes_on program valid (suc more) s fits =
     goes_then program s (step program s) (exec program more) more (sound_step program s valid fits) (step_nears program s valid fits.machine) (λ next fits'. goes_on program valid more next fits')
 
+-- the steps that a run has made and those that are left to it
+pub made_and_left : (program : MidProgram) → IsValid program → (steps : ℕ) (s t : State) (events : List Event) → Fits program s →
+    exec program steps s ≡ Running t events → steps + left_to_go program t.machine ≤ left_to_go program s.machine
+made_and_left program valid steps s t events fits e = (subst (Further program steps (left_to_go program s.machine)) e (goes_on program valid steps s fits)).0
+
 -- at the start fewer than 2^62 - 1 steps are left
 left_at_start : (program : MidProgram) (limits : Limits) → IsValid program → FitLimits program limits → left_to_go program (started_machine program limits) + 1 < 2 ^ 62
 left_at_start program limits valid fit =
