@@ -6,7 +6,7 @@ pub mod RowLemmas
 pub mod FlowLemmas
 pub mod Keeping
 pub mod OneMeaning
-pub mod Fetching
+pub mod VersionGroups
 pub mod RegistersLemmas
 pub mod Values
 pub mod Flowing

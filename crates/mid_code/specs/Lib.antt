@@ -11,6 +11,7 @@ pub mod Machine
 pub mod Classes
 pub mod Closed
 pub mod Versions
+pub mod CodeLaws
 pub mod Pairs
 pub mod Fits
 pub mod Start
