@@ -7,6 +7,7 @@ pub mod FlowLemmas
 pub mod Keeping
 pub mod OneMeaning
 pub mod VersionGroups
+pub mod AllShared
 pub mod RegistersLemmas
 pub mod Values
 pub mod Flowing

@@ -1,3 +1,6 @@
+ghost use Rattle.mid_code.specs.declared.program.MidProgram.{MidProgram};
+ghost use Rattle.mid_code.specs.Valid.{IsValid};
+ghost use Rattle.mid_code.specs.Closed.{AreClosed, everything_shared};
 ghost use Rattle.mid_code.specs.Versions.{leading, trailing};
 ghost use Rattle.mid_code.specs.CodeLaws.{HasGroups};
 
@@ -6,4 +9,9 @@ ghost use Rattle.mid_code.specs.CodeLaws.{HasGroups};
 pub fn versions_have_groups()
     ensures leading { HasGroups leading }
     ensures trailing { HasGroups trailing }
+{}
+
+/// A law: all `Address` registers and all objects of a valid program are a set that can be shared.
+pub fn everything_can_be_shared()
+    ensures { (program : MidProgram) → IsValid program → AreClosed (everything_shared program) }
 {}
