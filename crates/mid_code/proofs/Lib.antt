@@ -28,3 +28,5 @@ pub mod StoreTraps
 pub mod BudgetsKept
 pub mod BudgetsExact
 pub mod KeepingDecided
+pub mod Worked
+pub mod WorkedAddresses
