@@ -134,7 +134,7 @@ module _ (program : MidProgram) (limits : Limits) (turns : Part → ℕ) (s : St
 
   abbrev TurnsPast : ℕ → Counting → Type 0
   TurnsPast line c = (part : Part) × (turns part ≡ limits.turns)
-    × ((c ≡ OneTurn part line) ⊎ ((c ≡ OneActivation part line) × (live_of program part (activations s.machine) < limits.depth)))
+      × ((c ≡ OneTurn part line) ⊎ ((c ≡ OneActivation part line) × (live_of program part (activations s.machine) < limits.depth)))
 
   abbrev Told : Counting → Does → Type 0
   Told c d = Counted program (local_of program s.machine) c d
@@ -178,9 +178,11 @@ module _ (program : MidProgram) (limits : Limits) (turns : Part → ℕ) (s : St
       tested s own at callee deep used ≡ Ends (TrapEnd Turns line) [] → TurnsPast line (OneActivation own at)
   tested_turns line at own callee true used deep none e = absurd (cc)
   tested_turns line at own callee false true deep none e =
-      let same : at ≡ line = cc in
-      (own, omega (arith, balanced.turns_left own, eqb-true (turns_left_of own) 0 none),
-      inr (ap (OneActivation own) same, omega (arith, balanced.depth_left own, not_zero (depth_of own) deep)))
+      let same : at ≡ line = cc in (
+        own,
+        omega (arith, balanced.turns_left own, eqb-true (turns_left_of own) 0 none),
+        inr (ap (OneActivation own) same, omega (arith, balanced.depth_left own, not_zero (depth_of own) deep)),
+      )
   tested_turns line at own callee false false deep some e = absurd (cc)
 
   turns_forward : (line : ℕ) (c : Counting) (d : Does) → Told c d → step_by program d s ≡ Ends (TrapEnd Turns line) [] → TurnsPast line c

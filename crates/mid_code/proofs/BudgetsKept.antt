@@ -1,5 +1,5 @@
 -- What a step counts of a part and what it leaves to it make up what was left.
-use Rattle.std.proofs.Common.{◌≡◌, ℕ, ◌+◌, ◌-◌, ◌≤◌, List, [], ◌∷◌, Option, Some, None, Result, Ok, Err, Bool, true, false, refl, sym, ap, ◌∙◌, subst, arith}
+use Rattle.std.proofs.Common.{◌≡◌, ℕ, ◌+◌, ◌-◌, ◌≤◌, List, [], ◌∷◌, None, Result, Ok, Err, Bool, true, false, refl, sym, ap, ◌∙◌, subst, arith}
 use Rattle.std.specs.Prelude.{◌==◌, if◌then◌else◌}
 use Rattle.srmt_base.specs.declared.budgets.Budget.{Budget}
 use Rattle.srmt_base.specs.declared.budgets.Budgets.{Budgets}
@@ -10,13 +10,12 @@ use Rattle.srmt_base.specs.declared.trap.Trap.{Trap}
 use Rattle.srmt_base.specs.declared.trap.Trap.TheVariants.{Turns, Depth}
 use Rattle.srmt_base.specs.Budgets.{budget_of, with_budget, with_result, after_turn, spent, leave_of}
 use Rattle.srmt_base.specs.Memory.{Memory, read_of, write_of, begin_of, next_number}
-use Rattle.mid_code.specs.declared.program.MidFunction.{MidFunction}
 use Rattle.mid_code.specs.declared.program.MidProgram.{MidProgram}
 use Rattle.mid_code.specs.declared.access.Access.{Access}
 use Rattle.mid_code.specs.declared.access.Access.TheVariants.{Loads, Stores, VolatileLoads, VolatileStores, Opens, Closes, Puts, Gets, Exits}
 use Rattle.mid_code.specs.Program.{function_at}
-use Rattle.mid_code.specs.Machine.{Activation, Local, Machine, Does, Goes, Calls, Leaves, Traps, Reaches, Lost, Entry, Entered, Refused, NoFunction, activations, live_of, one_if, passed, given, given_object, passed_close, counts, part_of_function, local_of, with_local, with_top, waiting, activation_of, entry_by, entry_in, enter, resumed, returned_to, does}
-use Rattle.mid_code.specs.Meaning.{State, Step, On, Ends, Stuck, after_read, after_write, after_begin, after_get, after_call, after_return, own_part, reach, step, step_by}
+use Rattle.mid_code.specs.Machine.{Activation, Local, Machine, Does, Goes, Calls, Leaves, Traps, Reaches, Lost, activations, live_of, passed, given, given_object, passed_close, counts, part_of_function, local_of, with_local, with_top, waiting, activation_of, entry_by, entry_in, enter, resumed, returned_to, does}
+use Rattle.mid_code.specs.Meaning.{State, Step, On, Ends, Stuck, after_read, after_write, after_begin, after_call, after_return, own_part, reach, step, step_by}
 use Rattle.mid_code.specs.Counting.{Counting, Uncounted, OneTurn, OneActivation, next_counting, turns_of}
 use Rattle.mid_code.proofs.Naming.{not_zero}
 use Rattle.mid_code.proofs.MachineFits.{live_same, live_more}
@@ -44,7 +43,7 @@ same_budget Binary Binary budget budgets e = e
 abbrev pub tested : State → Part → ℕ → Activation → Bool → Bool → Step
 tested s part line callee deep used =
     after_call s (entry_by line callee (waiting s.machine) (with_result part s.machine.budgets
-      (if deep then Err Depth else if used then Err Turns else Ok (spent (budget_of part s.machine.budgets)))))
+    (if deep then Err Depth else if used then Err Turns else Ok (spent (budget_of part s.machine.budgets)))))
 
 -- a turn, by its test
 abbrev pub turned : MidProgram → State → ℕ → Bool → Step

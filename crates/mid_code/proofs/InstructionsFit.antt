@@ -1,14 +1,12 @@
 -- What an instruction of a valid program does keeps its activation within the program, and brings it nearer to a turn.
-use Rattle.std.proofs.Common.{◌≡◌, ◌≢◌, ℕ, ◌+◌, ◌-◌, ◌*◌, ◌<◌, ◌≤◌, ◌^◌, ◌⊎◌, List, [], ◌∷◌, length, Option, Some, None, Result, Ok, Err, Bool, true, false, inl, inr, refl, sym, ap, ◌∙◌, subst, arith}
-use Rattle.std.specs.Prelude.{All, IfOk, not, ◌==◌, ◌&&◌, nat_le, if◌then◌else◌, map, drop, slice_set, slice_get, option_and_then}
-use Rattle.std.proofs.lemmas.Bool.{cases_lt, and_parts, not-false, not-true, eqb-true, eqb-false, leb-false, both_ways}
+use Rattle.std.proofs.Common.{◌≡◌, ◌≢◌, ℕ, ◌+◌, ◌-◌, ◌<◌, ◌≤◌, ◌^◌, ◌⊎◌, List, [], ◌∷◌, length, Option, Some, None, Result, Ok, Err, Bool, true, false, inl, inr, refl, sym, ap, ◌∙◌, subst, arith}
+use Rattle.std.specs.Prelude.{All, IfOk, not, ◌==◌, if◌then◌else◌, map, drop, slice_set, slice_get, option_and_then}
+use Rattle.std.proofs.lemmas.Bool.{cases_lt, and_parts, not-false, not-true, eqb-true, eqb-false, both_ways}
 use Rattle.std.proofs.lemmas.List.{length-set, length-map}
 use Rattle.std.proofs.lemmas.List.Elements.{All-set}
-use Rattle.srmt_base.specs.declared.budgets.Budget.{Budget}
 use Rattle.srmt_base.specs.declared.trap.Trap.{Trap}
 use Rattle.srmt_base.specs.declared.trap.Trap.TheVariants.{NullPointer, NotAFunction, Turns}
 use Rattle.srmt_base.specs.Arith.{arith_of}
-use Rattle.srmt_base.specs.Budgets.{after_turn}
 use Rattle.srmt_base.specs.Convert.{convert_of}
 use Rattle.srmt_base.specs.Pointer.{pointer_sum_of, pointer_difference_of, pointer_comparison_of}
 use Rattle.srmt_base.specs.Objects.{pointer_to}
@@ -29,7 +27,7 @@ use Rattle.mid_code.specs.Rules.{is_turn, misfits_type, type_of, misreturns}
 use Rattle.mid_code.specs.WellFormed.{IsTarget}
 use Rattle.mid_code.specs.Valid.{IsValid}
 use Rattle.mid_code.specs.Machine.{Opened, Activation, Local, Does, Goes, Calls, Leaves, Traps, Reaches, Lost, register, arguments, moved_to, passed, given, given_object, passed_close, goes, gives, moved_if, counts, is_of_type, is_callee, calls_value, closes, act, act_at, does}
-use Rattle.mid_code.specs.Bounds.{to_turn_in, to_turn, alone_to_go, Nears}
+use Rattle.mid_code.specs.Bounds.{to_turn_in, to_turn, Nears}
 use Rattle.mid_code.specs.Fits.{IsValue, IsWithin}
 use Rattle.mid_code.proofs.Keeping.{KeepsRules, neither, keeps}
 use Rattle.mid_code.proofs.Values.{one_within, read_small, reads_small, wider}
@@ -240,9 +238,10 @@ module _ (program : MidProgram) (l : Local) (w : IsWithin program l.at) (line : 
   turn_fits valid stands false is =
       let passes : Passes program l.at w line Turn = record { stands = stands; more = refl; rest = []; first = refl } in
       let within = behind program l.at w line Turn passes l.at.registers l.at.opened refl w.each refl in
-      let some = not_zero l.budget.turns is in
-      (record { within = within; function = refl; into = refl; opened = refl; turns = omega arith; depth = refl },
-      omega (arith, some, few_to_turn program (passed l.at) valid within))
+      let some = not_zero l.budget.turns is in (
+        record { within = within; function = refl; into = refl; opened = refl; turns = omega arith; depth = refl },
+        omega (arith, some, few_to_turn program (passed l.at) valid within),
+      )
 
   -- a call
   call_fits : (mid : Mid) → IsPlain program l.at w line mid → (function : ℕ) (args : List ℕ) (target : ℕ) → CallFits program function args →
@@ -315,12 +314,15 @@ module _ (program : MidProgram) (l : Local) (w : IsWithin program l.at) (line : 
   -- objects begin and end
   open_fits : (target cells : ℕ) → Stands program l.at w line (Open target cells) → Sound program l (Reaches (Opens target cells) line)
   open_fits target cells stands =
-      let passes : Passes program l.at w line (Open target cells) = record { stands = stands; more = refl; rest = []; first = refl } in
-      ((stands.rules.fields.1.0,
-      λ number small. behind program l.at w line (Open target cells) passes (slice_set l.at.registers target (pointer_to number 0))
-          (record { place = l.at.place; number = number } ∷ l.at.opened) (length-set l.at.registers target (pointer_to number 0))
-          (All-set IsValue l.at.registers target (pointer_to number 0) small w.each) refl),
-      no_turn_here program l.at w line (Open target cells) stands refl)
+      let passes : Passes program l.at w line (Open target cells) = record { stands = stands; more = refl; rest = []; first = refl } in (
+        (
+          stands.rules.fields.1.0,
+          λ number small. behind program l.at w line (Open target cells) passes (slice_set l.at.registers target (pointer_to number 0))
+              (record { place = l.at.place; number = number } ∷ l.at.opened) (length-set l.at.registers target (pointer_to number 0))
+              (All-set IsValue l.at.registers target (pointer_to number 0) small w.each) refl,
+        ),
+        no_turn_here program l.at w line (Open target cells) stands refl,
+      )
 
   -- a `Close` that is reached names the newest object
   close_fits : (place : ℕ) → Stands program l.at w line (Close place) → (opened : List Opened) → l.at.opened ≡ opened → Sound program l (closes place line opened)
@@ -336,8 +338,13 @@ module _ (program : MidProgram) (l : Local) (w : IsWithin program l.at) (line : 
       let same : open_behind l.at.place (Close place) (places l.at) ≡ map (λ o. o.place) (drop 1 l.at.opened) =
       rw is (ap (λ b. if b then map (λ o. o.place) older else newest.place ∷ map (λ o. o.place) older) named) in
       if_sound (newest.place == place) (Reaches (Closes newest.number) line) Lost
-      (λ _. ((omega (arith, ap (λ (os : List Opened). length os) is),
-      behind program l.at w line (Close place) passes l.at.registers (drop 1 l.at.opened) refl w.each same), no_turn_here program l.at w line (Close place) stands refl))
+      (λ _. (
+        (
+          omega (arith, ap (λ (os : List Opened). length os) is),
+          behind program l.at w line (Close place) passes l.at.registers (drop 1 l.at.opened) refl w.each same,
+        ),
+        no_turn_here program l.at w line (Close place) stands refl,
+      ))
       (λ unnamed. (both_ways (newest.place == place) unnamed named, tt))
 
   register_small : (r : ℕ) → IsValue (register l.at r)

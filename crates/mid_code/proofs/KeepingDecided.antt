@@ -1,6 +1,5 @@
 -- Whether a run keeps addresses is decided by going over it once.
-use Rattle.std.proofs.Common.{◌≡◌, ℕ, zero, suc, ◌+◌, ◌<◌, ◌≤◌, List, [], ◌∷◌, ◌++◌, Bool, true, false, refl, sym, ap, ◌∙◌, subst, arith}
-use Rattle.std.specs.Prelude.{◌&&◌}
+use Rattle.std.proofs.Common.{◌≡◌, ℕ, zero, suc, ◌+◌, ◌<◌, List, [], ◌++◌, true, refl, sym, ap, ◌∙◌, subst, arith}
 use Rattle.std.proofs.lemmas.Bool.{and_parts, and_from}
 use Rattle.srmt_base.specs.declared.event.Event.{Event}
 use Rattle.srmt_base.specs.declared.limits.Limits.{Limits}
@@ -8,7 +7,7 @@ use Rattle.mid_code.specs.declared.program.MidProgram.{MidProgram}
 use Rattle.mid_code.specs.Bounds.{left_to_go}
 use Rattle.mid_code.specs.Start.{started_machine}
 use Rattle.mid_code.specs.Meaning.{State, Step, On, Ends, Stuck, Run, Running, Ended, NoWay, if_on, step, preceded, then_run, exec, started}
-use Rattle.mid_code.specs.Keeps.{Write, writes_after, keeps_next, keeps_for, keeps_addresses, writes_in, KeepsAddresses}
+use Rattle.mid_code.specs.Keeps.{Write, writes_after, keeps_next, keeps_for, writes_in}
 use Rattle.mid_code.specs.Laws.{CanRun, DecidesKeeping}
 use Rattle.mid_code.proofs.RunsEnd.{made_and_left}
 use Rattle.mid_code.proofs.StartFits.{fits_started}
@@ -27,7 +26,7 @@ module _ (program : MidProgram) where
   -- going over so many steps tests each moment before
   kept_step : (steps more : ℕ) (writes after : List Write) (u : Step) (t : State) (events : List Event) →
       ((next : State) (seen : List Event) → keeps_for program more after next ≡ true → exec program steps next ≡ Running t seen →
-        keeps_next program (writes_in program steps after next) t ≡ true) →
+      keeps_next program (writes_in program steps after next) t ≡ true) →
       if_on u true (keeps_for program more after) ≡ true → then_run u (exec program steps) ≡ Running t events →
       keeps_next program (if_on u writes (writes_in program steps after)) t ≡ true
   kept_step steps more writes after (On next es) t events rest h e =
@@ -73,8 +72,7 @@ module _ (program : MidProgram) where
 pub decides_keeping : (program : MidProgram) (input : List ℕ) (limits : Limits) → CanRun program input limits → DecidesKeeping program input limits
 decides_keeping program input limits can =
     let start = started program input limits in
-    let most = left_to_go program (started_machine program limits) + 1 in
-    (
+    let most = left_to_go program (started_machine program limits) + 1 in (
       λ h steps t events e.
           let made = made_and_left program can.valid steps start t events (fits_started program input limits can.valid can.fit can.bytes) e in
           kept_at program steps most [] start t events (omega (arith, made)) h e,

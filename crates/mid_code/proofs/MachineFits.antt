@@ -1,6 +1,6 @@
 -- A machine stands within its program after an activation has gone on by itself, after a call and after a return.
-use Rattle.std.proofs.Common.{◌≡◌, ◌≢◌, ℕ, ◌+◌, ◌-◌, ◌<◌, ◌≤◌, List, [], ◌∷◌, length, Option, Some, None, Result, Ok, Err, Bool, true, false, refl, sym, ap, ◌∙◌, subst, arith}
-use Rattle.std.specs.Prelude.{All, map, slice_set, if◌then◌else◌, ◌==◌}
+use Rattle.std.proofs.Common.{◌≡◌, ◌≢◌, ℕ, ◌+◌, ◌<◌, ◌≤◌, List, [], ◌∷◌, length, Option, Some, None, Result, Ok, Err, Bool, true, false, refl, sym, ap, ◌∙◌, subst, arith}
+use Rattle.std.specs.Prelude.{All, if◌then◌else◌, ◌==◌}
 use Rattle.std.proofs.lemmas.List.{length-set}
 use Rattle.std.proofs.lemmas.List.Elements.{All-set}
 use Rattle.srmt_base.specs.declared.budgets.Budget.{Budget}
@@ -13,10 +13,9 @@ use Rattle.srmt_base.specs.Budgets.{budget_of, with_budget, with_result, spent, 
 use Rattle.mid_code.specs.declared.program.MidFunction.{MidFunction}
 use Rattle.mid_code.specs.declared.program.MidProgram.{MidProgram}
 use Rattle.mid_code.specs.Program.{function_at}
-use Rattle.mid_code.specs.Flow.{found_at}
 use Rattle.mid_code.specs.Valid.{IsValid}
-use Rattle.mid_code.specs.Machine.{Opened, Activation, Local, Machine, Entry, Entered, Refused, NoFunction, live_of, one_if, part_of_function, local_of, with_local, with_top, activation_of, entry_by, entry_in, enter, resumed, returned_to, returned}
-use Rattle.mid_code.specs.Fits.{IsValue, IsWithin, AreBelow, IsLeft, AreLeft, IsMachine}
+use Rattle.mid_code.specs.Machine.{Activation, Local, Machine, Entry, Entered, Refused, NoFunction, live_of, one_if, part_of_function, local_of, with_local, with_top, activation_of, entry_by, entry_in, enter, resumed, returned_to, returned}
+use Rattle.mid_code.specs.Fits.{IsValue, IsWithin, AreBelow, AreLeft, IsMachine}
 use Rattle.mid_code.proofs.Values.{first_registers}
 use Rattle.mid_code.proofs.Flowing.{none_at_start}
 use Rattle.mid_code.proofs.Naming.{not_zero, function_kept}
@@ -103,7 +102,7 @@ entry_by_cases line callee callers P (Err trap) enters refuses = refuses trap re
 pub entry_cases : (program : MidProgram) (function : ℕ) (f : MidFunction) (args : List ℕ) (into : ℕ) (callers : List Activation) (budgets : Budgets) →
     function_at program function ≡ Some f → (P : Entry → Type 0) →
     ((left : Budgets) → enter_of (part_of_function program function) budgets ≡ Ok left →
-      P (Entered (record { top = activation_of function f args into; below = callers; budgets = left }))) →
+    P (Entered (record { top = activation_of function f args into; below = callers; budgets = left }))) →
     ((trap : Trap) → enter_of (part_of_function program function) budgets ≡ Err trap → P (Refused trap f.line)) →
     P (enter program function args into callers budgets)
 entry_cases program function f args into callers budgets found P enters refuses =
@@ -175,12 +174,12 @@ enter_fits program function args into callers budgets valid call below left =
     let callee = activation_of function call.code args into in
     entry_cases program function call.code args into callers budgets call.found (EntryFits program)
     (λ after e.
-      let spends = enter_spends part budgets after e in
-      record {
-        top = begins program function call.code args into valid call.found call.room call.values;
-        below = below;
-        left = subst (λ b. AreLeft program (callee ∷ callers) b) spends.left_is (spent_left program part callee callers budgets refl spends.some_depth left);
-      })
+    let spends = enter_spends part budgets after e in
+    record {
+      top = begins program function call.code args into valid call.found call.room call.values;
+      below = below;
+      left = subst (λ b. AreLeft program (callee ∷ callers) b) spends.left_is (spent_left program part callee callers budgets refl spends.some_depth left);
+    })
     (λ trap e. tt)
 
 -- a caller with a result

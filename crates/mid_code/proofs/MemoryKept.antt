@@ -52,10 +52,10 @@ last_small Binary number h = omega arith
 began_by : (memory : Memory) (part : Part) (cells : ℕ) → IsMemory memory → 1 ≤ cells → (used full : Bool) →
     nat_lt (last_number part) (next_number part memory) ≡ used → nat_lt (objects_of part memory).budget (live_cells (objects_of part memory) + cells) ≡ full →
     IfOk (changed part memory (begun_if (if used then Err Store else if full then Err Store else Ok (record {
-        fresh = (objects_of part memory).fresh + 1;
-        cells = live_cells (objects_of part memory) + cells;
-        budget = (objects_of part memory).budget;
-      })) (objects_of part memory) cells)) (AfterBegin part memory)
+      fresh = (objects_of part memory).fresh + 1;
+      cells = live_cells (objects_of part memory) + cells;
+      budget = (objects_of part memory).budget;
+    })) (objects_of part memory) cells)) (AfterBegin part memory)
 began_by memory part cells h some true full last room = tt
 began_by memory part cells h some false true last room = tt
 began_by memory part cells h some false false last room =

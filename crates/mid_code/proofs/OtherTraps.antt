@@ -1,6 +1,6 @@
 -- Arithmetic and accesses never trap by the budgets of turns and of live activations.
 use Rattle.std.proofs.Common.{◌≡◌, ℕ, ◌+◌, ◌^◌, ℤ, pos, ◌+ℤ◌, ◌-ℤ◌, ◌*ℤ◌, length, Option, Some, None, Result, Ok, Err, Bool, true, false, refl}
-use Rattle.std.specs.Prelude.{IfErr, not, ◌&&◌, ◌||◌, ◌==◌, nat_le, nat_lt, int_div, if◌then◌else◌}
+use Rattle.std.specs.Prelude.{IfErr, not, ◌&&◌, ◌==◌, nat_le, nat_lt, int_div, if◌then◌else◌}
 use Rattle.std.specs.Int.{is_negative}
 use Rattle.std.specs.Ordering.{int_eq}
 use Rattle.srmt_base.specs.declared.op.Op.{Op}
@@ -12,9 +12,9 @@ use Rattle.srmt_base.specs.Trap.{is_budget}
 use Rattle.srmt_base.specs.Types.{is_signed, can_hold, value_at, width_of}
 use Rattle.srmt_base.specs.Arith.{arith_of, reduced, shifted_left, bits_at}
 use Rattle.srmt_base.specs.Pointer.{amount_of, pointer_sum_of, pointer_difference_of, pointer_comparison_of, is_equality, is_offset}
-use Rattle.srmt_base.specs.Objects.{Object, Objects, object_part, offset_part, live_at, access_in, access_of, if_passed, put_of, begun, add_of, live_cells, written}
+use Rattle.srmt_base.specs.Objects.{Object, Objects, object_part, offset_part, live_at, access_in, access_of, if_passed, put_of, live_cells, written}
 use Rattle.srmt_base.specs.declared.part.Part.{Part}
-use Rattle.srmt_base.specs.Memory.{Memory, Count, objects_of, last_number, part_of, count_of, draw_of, changed, begun_if, begin_in, read_of, write_of, begin_of}
+use Rattle.srmt_base.specs.Memory.{Memory, Count, objects_of, last_number, part_of, count_of, draw_of, changed, begun_if, read_of, write_of, begin_of}
 
 -- a trap that is no budget's
 abbrev pub IsOther : Trap → Type 0
@@ -112,4 +112,4 @@ begin_store memory part cells =
     let s = objects_of part memory in
     begun_store part memory s cells (draw_of part (count_of s) cells)
     (drawn_store (nat_lt (last_number part) s.fresh) (nat_lt s.budget (live_cells s + cells))
-      (record { fresh = s.fresh + 1; cells = live_cells s + cells; budget = s.budget }))
+    (record { fresh = s.fresh + 1; cells = live_cells s + cells; budget = s.budget }))

@@ -1,5 +1,5 @@
 -- The start of a run is the entry of `main`, and fits its program.
-use Rattle.std.proofs.Common.{◌≡◌, ℕ, ◌+◌, ◌-◌, ◌<◌, ◌≤◌, ◌^◌, List, [], ◌∷◌, length, Option, Some, None, Result, Ok, Err, Bool, true, false, refl, sym, ap, ◌∙◌, subst, arith}
+use Rattle.std.proofs.Common.{◌≡◌, ℕ, ◌+◌, ◌-◌, ◌<◌, ◌≤◌, ◌^◌, List, [], ◌∷◌, length, Option, Some, None, Ok, Err, Bool, true, false, refl, sym, ap, ◌∙◌, subst, arith}
 use Rattle.std.specs.Prelude.{All, if◌then◌else◌, ◌==◌, ◌||◌, nat_lt, nat_le, replicate, sum_by}
 use Rattle.std.specs.List.{list_any}
 use Rattle.std.proofs.lemmas.Bool.{ltb-false, leb-false, le-leb, ne_eqb}
@@ -8,7 +8,6 @@ use Rattle.std.proofs.lemmas.List.Elements.{All-append, All-replicate, All-cons,
 use Rattle.std.proofs.lemmas.List.Sums.{sum_by-cons}
 use Rattle.srmt_base.specs.declared.limits.Limits.{Limits}
 use Rattle.srmt_base.specs.Objects.{Object}
-use Rattle.srmt_base.specs.declared.budgets.Budgets.{Budgets}
 use Rattle.srmt_base.specs.declared.part.Part.{Part}
 use Rattle.srmt_base.specs.declared.part.Part.TheVariants.{Protected, Binary}
 use Rattle.srmt_base.specs.declared.statics.Static.{Static}
@@ -21,14 +20,14 @@ use Rattle.mid_code.specs.declared.program.MidProgram.{MidProgram}
 use Rattle.mid_code.specs.Program.{function_at}
 use Rattle.mid_code.specs.Rules.{is_bad_static, has_bad_statics}
 use Rattle.mid_code.specs.Valid.{IsValid}
-use Rattle.mid_code.specs.Machine.{Activation, Machine, Entry, Entered, activation_of, entry_by, entry_in, part_of_function, one_if, live_of}
+use Rattle.mid_code.specs.Machine.{Activation, Machine, Entered, activation_of, entry_by, entry_in, part_of_function, one_if, live_of}
 use Rattle.mid_code.specs.Start.{FitLimits, started_memory, main_activation, started_machine}
 use Rattle.mid_code.specs.Meaning.{started}
-use Rattle.mid_code.specs.Fits.{IsValue, HoldsValues, AreRising, IsWithin, IsPart, IsMemory, IsMachine, Fits, open_count}
+use Rattle.mid_code.specs.Fits.{IsValue, HoldsValues, AreRising, IsPart, IsMemory, IsMachine, Fits, open_count}
 use Rattle.mid_code.proofs.Keeping.{neither}
 use Rattle.mid_code.specs.Laws.{EntersMain}
 use Rattle.mid_code.proofs.MachineFits.{begins}
-use Rattle.mid_code.proofs.Naming.{KeepsProgram, not_zero, main_found, whole, few_statics, function_kept}
+use Rattle.mid_code.proofs.Naming.{KeepsProgram, not_zero, main_found, whole, few_statics}
 
 -- what the tests of a static object say
 record GoodStatic (object : Static) : Type 0 where

@@ -1,5 +1,5 @@
 -- Every state of a run of a valid program fits it, and has a next step or ends.
-use Rattle.std.proofs.Common.{◌≡◌, ℕ, zero, suc, ◌+◌, ◌<◌, ◌≤◌, List, [], ◌∷◌, length, Option, Some, None, Result, Ok, Err, refl, ap, subst, arith}
+use Rattle.std.proofs.Common.{◌≡◌, ℕ, zero, suc, ◌+◌, ◌<◌, ◌≤◌, List, [], ◌∷◌, length, Result, Ok, Err, refl, ap, subst, arith}
 use Rattle.std.specs.Prelude.{All, IfOk, drop}
 use Rattle.std.proofs.lemmas.List.Elements.{All-head, All-tail}
 use Rattle.srmt_base.specs.declared.event.Event.{Event}
@@ -12,12 +12,12 @@ use Rattle.mid_code.specs.declared.program.MidProgram.{MidProgram}
 use Rattle.mid_code.specs.declared.access.Access.{Access}
 use Rattle.mid_code.specs.declared.access.Access.TheVariants.{Loads, Stores, VolatileLoads, VolatileStores, Opens, Closes, Puts, Gets, Exits}
 use Rattle.mid_code.specs.Valid.{IsValid}
-use Rattle.mid_code.specs.Machine.{Activation, Machine, Does, Goes, Calls, Leaves, Traps, Reaches, Lost, Entry, Entered, Refused, NoFunction, activations, passed, given, given_object, passed_close, local_of, with_local, with_top, waiting, enter, returned_to, returned, does}
+use Rattle.mid_code.specs.Machine.{Activation, Machine, Does, Goes, Calls, Leaves, Traps, Reaches, Lost, Entry, Entered, Refused, NoFunction, activations, passed, given, given_object, passed_close, local_of, with_local, with_top, waiting, enter, returned_to, does}
 use Rattle.mid_code.specs.Meaning.{State, Step, On, Ends, Stuck, Run, Running, Ended, NoWay, after_read, after_write, after_begin, after_get, after_call, after_return, own_part, reach, step, step_by, preceded, then_run, exec}
 use Rattle.mid_code.specs.Fits.{IsValue, IsWithin, IsMachine, Fits, open_count}
 use Rattle.mid_code.proofs.PartsKept.{read_value}
 use Rattle.mid_code.proofs.MemoryKept.{AfterWrite, AfterBegin, wrote, began, finished}
-use Rattle.mid_code.proofs.MachineFits.{EntryFits, ReturnFits, GoesOn, top_changed, local_fits, entry_cases, enter_fits, returned_fits}
+use Rattle.mid_code.proofs.MachineFits.{EntryFits, ReturnFits, top_changed, local_fits, entry_cases, enter_fits, returned_fits}
 use Rattle.mid_code.proofs.InstructionsFit.{AccessFits, DoesFit, Waits, does_fits}
 
 -- a step leads to a state that fits, or ends the run

@@ -1,29 +1,23 @@
 -- Each step of a run leaves fewer steps to go, and a run of a valid program ends after fewer steps and events than its bound.
-use Rattle.std.proofs.Common.{◌≡◌, ℕ, zero, suc, ◌+◌, ◌*◌, ◌<◌, ◌≤◌, ◌^◌, List, [], ◌∷◌, ◌++◌, length, Result, Ok, Err, refl, ap, subst, arith, length-append}
+use Rattle.std.proofs.Common.{◌≡◌, ℕ, ◌+◌, ◌*◌, ◌<◌, ◌≤◌, List, [], ◌∷◌, length, Result, Ok, Err, refl, ap, subst, arith}
 use Rattle.srmt_base.specs.declared.budgets.Budget.{Budget}
 use Rattle.srmt_base.specs.declared.budgets.Budgets.{Budgets}
 use Rattle.srmt_base.specs.declared.event.Event.{Event}
 use Rattle.srmt_base.specs.declared.part.Part.{Part}
 use Rattle.srmt_base.specs.declared.part.Part.TheVariants.{Protected, Binary}
 use Rattle.srmt_base.specs.declared.trap.Trap.{Trap}
-use Rattle.srmt_base.specs.declared.trap.SourceEnd.{SourceEnd}
-use Rattle.srmt_base.specs.declared.limits.Limits.{Limits}
-use Rattle.srmt_base.specs.Budgets.{budget_of, with_budget, spent, enter_of, leave_of}
-use Rattle.srmt_base.specs.Input.{next_byte}
+use Rattle.srmt_base.specs.Budgets.{budget_of, with_budget, spent, leave_of}
 use Rattle.srmt_base.specs.Memory.{Memory, read_of, write_of, begin_of, next_number}
 use Rattle.mid_code.specs.declared.program.MidProgram.{MidProgram}
 use Rattle.mid_code.specs.declared.access.Access.{Access}
 use Rattle.mid_code.specs.declared.access.Access.TheVariants.{Loads, Stores, VolatileLoads, VolatileStores, Opens, Closes, Puts, Gets, Exits}
 use Rattle.mid_code.specs.Valid.{IsValid}
-use Rattle.mid_code.specs.Machine.{Activation, Local, Machine, Does, Goes, Calls, Leaves, Traps, Reaches, Lost, Entry, Entered, Refused, NoFunction, passed, given, given_object, passed_close, part_of_function, local_of, with_local, with_top, activation_of, waiting, enter, resumed, returned_to, does}
-use Rattle.mid_code.specs.Meaning.{State, Step, On, Ends, Stuck, Run, Running, Ended, NoWay, after_read, after_write, after_begin, after_get, after_call, after_return, own_part, reach, step, step_by, preceded, then_run, exec, started}
-use Rattle.mid_code.specs.Start.{FitLimits, started_machine}
+use Rattle.mid_code.specs.Machine.{Activation, Does, Goes, Calls, Leaves, Traps, Reaches, Lost, Entry, passed, given, given_object, passed_close, part_of_function, local_of, with_top, activation_of, waiting, enter, resumed, returned_to, does}
+use Rattle.mid_code.specs.Meaning.{State, Step, On, Ends, Stuck, after_read, after_write, after_begin, after_call, after_return, own_part, reach, step, step_by}
 use Rattle.mid_code.specs.Bounds.{to_turn, all_to_turn, left_to_go, Nears}
-use Rattle.mid_code.specs.Fits.{IsValue, IsMachine, Fits}
-use Rattle.mid_code.specs.Laws.{CanRun, IsShort}
+use Rattle.mid_code.specs.Fits.{IsMachine, Fits}
 use Rattle.mid_code.proofs.MachineFits.{entry_cases, enter_spends, begins}
 use Rattle.mid_code.proofs.InstructionsFit.{DoesFit, Waits, few_to_turn, does_fits}
-use Rattle.mid_code.proofs.StatesFit.{IsSound, sound_step}
 
 -- a step leaves fewer steps to go, with at most one event
 abbrev pub StepNears : MidProgram → State → Step → Type 0

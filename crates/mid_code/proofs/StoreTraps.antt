@@ -1,5 +1,5 @@
 -- The budget of cells stands still in a run, and beginning an object passes it exactly where the trap says so.
-use Rattle.std.proofs.Common.{◌≡◌, ◌≢◌, ℕ, zero, suc, ◌+◌, ◌<◌, ◌⊎◌, List, [], ◌∷◌, Option, Some, None, Result, Ok, Err, Bool, true, false, inl, inr, refl, sym, ap, ◌∙◌, subst}
+use Rattle.std.proofs.Common.{◌≡◌, ◌≢◌, ℕ, zero, suc, ◌+◌, ◌<◌, ◌⊎◌, List, [], Option, Some, None, Result, Ok, Err, Bool, true, false, inl, inr, refl, sym, ap, ◌∙◌, subst}
 use Rattle.std.specs.Prelude.{IfOk, IfErr, ◌==◌, nat_lt, if◌then◌else◌}
 use Rattle.std.proofs.lemmas.Bool.{ltb-true, lt-ltb, true≢false}
 use Rattle.srmt_base.specs.declared.budgets.Budget.{Budget}
@@ -22,7 +22,7 @@ use Rattle.mid_code.specs.declared.access.Access.{Access}
 use Rattle.mid_code.specs.declared.access.Access.TheVariants.{Loads, Stores, VolatileLoads, VolatileStores, Opens, Closes, Puts, Gets, Exits}
 use Rattle.mid_code.specs.Program.{function_at, line_at}
 use Rattle.mid_code.specs.Machine.{Activation, Machine, Does, Goes, Calls, Leaves, Traps, Reaches, Lost, Entry, Entered, Refused, NoFunction, local_of, part_of_function, waiting, activation_of, entry_by, entry_in, enter, returned, act, act_at, does}
-use Rattle.mid_code.specs.Meaning.{State, Step, On, Ends, Stuck, Run, Running, Ended, NoWay, after_read, after_write, after_begin, after_get, after_call, after_return, own_part, reach, step, step_by, preceded, then_run, exec, started}
+use Rattle.mid_code.specs.Meaning.{State, Step, On, Ends, Stuck, Run, Running, Ended, NoWay, after_read, after_write, after_begin, after_call, after_return, own_part, reach, step, step_by, preceded, then_run, exec, started}
 use Rattle.mid_code.proofs.OtherTraps.{IsOther, read_other, write_other}
 use Rattle.mid_code.proofs.InstructionsCounted.{OpensBy, not_store, act_opens}
 
@@ -142,7 +142,7 @@ module _ (memory : Memory) (part : Part) (cells : ℕ) where
   begun_by used full =
       let s = objects_of part memory in
       changed part memory (begun_if (if used then Err StoreTrap else if full then Err StoreTrap
-        else Ok (record { fresh = s.fresh + 1; cells = live_cells s + cells; budget = s.budget })) s cells)
+      else Ok (record { fresh = s.fresh + 1; cells = live_cells s + cells; budget = s.budget })) s cells)
 
   no_room_by : (trap : Trap) (used full : Bool) → nat_lt (last_number part) (next_number part memory) ≡ used →
       nat_lt (objects_of part memory).budget (live_cells (objects_of part memory) + cells) ≡ full → begun_by used full ≡ Err trap →

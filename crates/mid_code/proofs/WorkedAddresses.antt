@@ -1,6 +1,5 @@
 -- Programs whose runs keep addresses, and one whose run does not, by the definition.
 use Rattle.std.proofs.Common.{◌≡◌, List, [], ◌∷◌, true, false, refl}
-use Rattle.std.specs.Prelude.{replicate}
 use Rattle.srmt_base.specs.declared.limits.Limits.{Limits}
 use Rattle.mid_code.specs.declared.program.RegisterKind.TheVariants.{Number, Address}
 use Rattle.mid_code.specs.declared.program.MidLine.{MidLine}

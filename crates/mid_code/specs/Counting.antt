@@ -14,7 +14,7 @@ use Rattle.mid_code.specs.declared.mid.Mid.{Mid}
 use Rattle.mid_code.specs.declared.mid.Mid.TheVariants.{Const, Move, Arith, Conv, PtrAdd, PtrDiff, PtrCmp, GlobAddr, FunAddr, Load, Store, VLoad, VStore, Open, Close, Jump, JumpZ, JumpN, Turn, Call, CallPtr, Return, Put, Get, Exit}
 use Rattle.mid_code.specs.Program.{function_at, line_at}
 use Rattle.mid_code.specs.Machine.{Activation, Machine, register, activations, one_if, live_of, part_of_function, is_callee}
-use Rattle.mid_code.specs.Meaning.{State, Step, Ends, if_on, own_part, step}
+use Rattle.mid_code.specs.Meaning.{State, Ends, if_on, own_part, step}
 
 pub data Counting : Type 0 where
   Uncounted : Counting

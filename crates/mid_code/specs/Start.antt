@@ -1,5 +1,5 @@
 -- How a run begins: its memory, its budgets and its first activation.
-use Rattle.std.specs.Prelude.{ℕ, ◌^◌, ◌≤◌, List, [], Option, Some, None}
+use Rattle.std.specs.Prelude.{◌^◌, ◌≤◌, [], Option, Some, None}
 use Rattle.srmt_base.specs.declared.limits.Limits.{Limits}
 use Rattle.srmt_base.specs.declared.part.Part.TheVariants.{Protected, Binary}
 use Rattle.srmt_base.specs.Budgets.{full_budget, spent}
