@@ -27,7 +27,7 @@ found_same None left h = absurd (cc)
 found_same (Some found) left h = ap Some (same_places-true found left (not-false (same_places found left) h))
 
 -- a place of the code that is entered has what is left
-entered_here : (code : List MidLine) (target : ℕ) (left : List ℕ) → (nat_lt target (length code) && has_others (found_at code target) left) ≡ false → target < length code → found_at code target ≡ Some left
+pub entered_here : (code : List MidLine) (target : ℕ) (left : List ℕ) → (nat_lt target (length code) && has_others (found_at code target) left) ≡ false → target < length code → found_at code target ≡ Some left
 entered_here code target left h within =
     found_same (found_at code target) left (subst (λ b. (b && has_others (found_at code target) left) ≡ false) (lt-ltb target (length code) within) h)
 

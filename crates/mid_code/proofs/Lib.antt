@@ -8,6 +8,7 @@ pub mod Keeping
 pub mod OneMeaning
 pub mod VersionGroups
 pub mod AllShared
+pub mod ValidInWords
 pub mod RegistersLemmas
 pub mod Values
 pub mod Flowing

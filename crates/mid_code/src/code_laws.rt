@@ -1,8 +1,14 @@
 ghost use Rattle.mid_code.specs.declared.program.MidProgram.{MidProgram};
 ghost use Rattle.mid_code.specs.Valid.{IsValid};
+ghost use Rattle.mid_code.specs.WellFormed.{IsWellFormed};
 ghost use Rattle.mid_code.specs.Closed.{AreClosed, everything_shared};
 ghost use Rattle.mid_code.specs.Versions.{leading, trailing};
 ghost use Rattle.mid_code.specs.CodeLaws.{HasGroups};
+
+/// A law: a valid program is well formed.
+pub fn valid_is_well_formed()
+    ensures { (program : MidProgram) → IsValid program → IsWellFormed program }
+{}
 
 /// A law: each place of a version is one of the group of one instruction, and each group has from
 /// 1 to 20.
