@@ -8,6 +8,7 @@ pub mod Keeping
 pub mod OneMeaning
 pub mod VersionGroups
 pub mod AllShared
+pub mod OneSiteEach
 pub mod ValidInWords
 pub mod RegistersLemmas
 pub mod Values

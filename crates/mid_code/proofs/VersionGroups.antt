@@ -20,7 +20,7 @@ use Rattle.mid_code.specs.declared.version.Version.{Version}
 use Rattle.mid_code.specs.declared.version.Operands.TheVariants.{Passed, Called}
 use Rattle.mid_code.specs.Program.{function_at}
 use Rattle.mid_code.specs.Registers.{registers_list}
-use Rattle.mid_code.specs.Classes.{Sharing, sharing_of, sharings, sharings_of, all_sharings, sites_of, site_count, class_of, classes_from, all_classes_from, classes_of, SharedProgram, protected_functions, first_site}
+use Rattle.mid_code.specs.Classes.{Sharing, sharing_of, sharings, sharings_of, all_sharings, sites_of, site_count, class_of, classes_from, all_classes_from, classes_of, SharedProgram, protected_functions}
 use Rattle.mid_code.specs.Versions.{Table, leading, trailing, leading_exchange, leading_exchange_size, trailing_exchange, trailing_exchange_size, checks, check_count, checked, with_line, size_of, place_in, group_of, groups_from, version_of, versions_from, versions_of, version_at}
 use Rattle.mid_code.specs.CodeLaws.{StandsIn, HasGroups}
 use Rattle.mid_code.proofs.RegistersLemmas.{length-registers_list}
@@ -337,6 +337,11 @@ pub record IsProtected (p : SharedProgram) (function : ℕ) (f : MidFunction) (s
   pub protected : function ≤ p.program.main_functions
   pub found : function_at p.program function ≡ Some f
   pub shared : slice_get p.shared (function - 1) ≡ Some s
+
+-- the first site of a function: one past those of the functions before it
+abbrev pub first_site : SharedProgram → ℕ → ℕ
+first_site p zero = 1
+first_site p (suc before) = 1 + sum_by site_count (take before (all_sharings p))
 
 -- how its instructions are shared, and their classes
 abbrev pub sharings_in : SharedProgram → MidFunction → Shared → List Sharing

@@ -137,13 +137,3 @@ wrappers_before program function = if nat_lt program.main function then function
 
 abbrev pub wrapper_site : SharedProgram → ℕ → ℕ
 wrapper_site p function = 1 + instruction_sites p + wrappers_before p.program function
-
--- the first site of a function: one past those of the functions before it
-abbrev pub first_site : SharedProgram → ℕ → ℕ
-first_site p zero = 1
-first_site p (suc before) = 1 + sum_by site_count (take before (all_sharings p))
-
--- the site that the instruction at a place of a function takes, if it takes one
-abbrev pub site_in : SharedProgram → ℕ → ℕ → Option (List Sharing) → ℕ
-site_in p function place None = 0
-site_in p function place (Some ss) = first_site p function + site_count (take place ss)

@@ -1,9 +1,10 @@
 ghost use Rattle.mid_code.specs.declared.program.MidProgram.{MidProgram};
 ghost use Rattle.mid_code.specs.Valid.{IsValid};
 ghost use Rattle.mid_code.specs.WellFormed.{IsWellFormed};
+ghost use Rattle.mid_code.specs.Classes.{SharedProgram};
 ghost use Rattle.mid_code.specs.Closed.{AreClosed, everything_shared};
 ghost use Rattle.mid_code.specs.Versions.{leading, trailing};
-ghost use Rattle.mid_code.specs.CodeLaws.{HasGroups};
+ghost use Rattle.mid_code.specs.CodeLaws.{HasGroups, HasOneOfEach};
 
 /// A law: a valid program is well formed.
 pub fn valid_is_well_formed()
@@ -20,4 +21,9 @@ pub fn versions_have_groups()
 /// A law: all `Address` registers and all objects of a valid program are a set that can be shared.
 pub fn everything_can_be_shared()
     ensures { (program : MidProgram) → IsValid program → AreClosed (everything_shared program) }
+{}
+
+/// A law: no two instructions or wrappers have one site.
+pub fn sites_are_apart()
+    ensures { (p : SharedProgram) → IsValid p.program → HasOneOfEach p }
 {}

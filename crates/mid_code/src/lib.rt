@@ -25,7 +25,9 @@ mod way;
 
 pub use access::Access;
 pub use class::{Class, Shared};
-pub use code_laws::{everything_can_be_shared, valid_is_well_formed, versions_have_groups};
+pub use code_laws::{
+    everything_can_be_shared, sites_are_apart, valid_is_well_formed, versions_have_groups,
+};
 pub use field::{Field, Wanted, fields};
 pub use laws::{
     budgets_are_exact, is_bounded, is_determined, is_never_stuck, keeping_is_decided,
