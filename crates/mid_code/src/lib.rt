@@ -24,7 +24,7 @@ mod version;
 mod way;
 
 pub use access::Access;
-pub use class::{Class, Shared};
+pub use class::{Class, Shared, everything_shared};
 pub use code_laws::{
     everything_can_be_shared, sites_are_apart, valid_is_well_formed, versions_have_groups,
 };
@@ -42,6 +42,3 @@ pub use srmt_base::Static;
 pub use validity::valid;
 pub use version::{Operands, Version, VersionLine, VersionOp};
 pub use way::{Way, way_of};
-
-#[cfg(test)]
-mod tests;

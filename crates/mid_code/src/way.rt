@@ -1,5 +1,5 @@
 ghost use Rattle.std.specs.Prelude.{◌≡◌};
-ghost use Rattle.mid_code.specs.Ways.{way_of, is_final_way, is_counting};
+ghost use Rattle.mid_code.specs.Ways.{way_of, is_final_way, is_counting, is_beginning};
 
 use crate::mid::Mid;
 
@@ -32,6 +32,22 @@ impl Way {
         match self {
             Way::Jumps(_) | Way::Returns | Way::Stops => true,
             Way::Next | Way::Counts | Way::Begins | Way::Ends(_) | Way::Branches(_) => false,
+        }
+    }
+
+    /// Whether an object begins.
+    pub fn is_beginning(self) -> bool
+        ensures { result ≡ is_beginning self }
+    {
+        match self {
+            Way::Begins => true,
+            Way::Next
+            | Way::Counts
+            | Way::Ends(_)
+            | Way::Jumps(_)
+            | Way::Branches(_)
+            | Way::Returns
+            | Way::Stops => false,
         }
     }
 

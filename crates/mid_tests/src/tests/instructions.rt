@@ -1,4 +1,4 @@
-use crate::{Mid, Registers};
+use mid_code::{Mid, Registers};
 use srmt_base::{Op, Ty};
 
 const NONE: Registers = Registers {

@@ -1,10 +1,10 @@
 mod instructions;
 
-use crate::{
+use instructions::SINGLE;
+use mid_code::{
     FunType, Mid, MidFunction, MidLine, MidProgram, MidRefusal, RegisterKind, Registers, Static,
     valid,
 };
-use instructions::SINGLE;
 use sqlite_items::Items;
 use std::alloc::{AllocError, Global};
 use std::test::Fail;
