@@ -163,7 +163,7 @@ same_function main f g b c e (inr first) (inr second) = omega (arith, first.0, s
 
 pub one_of_each : (p : SharedProgram) → IsValid p.program → HasOneOfEach p
 one_of_each p valid = record { alone = alone; first = first; wrapped = wrapped; wrapped_alone = wrapped_alone } where
-  alone : (function place other further : ℕ) (site : ℕ) → site_at p function place ≡ Some (site_of site) → site_at p other further ≡ Some (site_of site) → (function ≡ other) × (place ≡ further)
+  alone : (function place other further site : ℕ) → site_at p function place ≡ Some (site_of site) → site_at p other further ≡ Some (site_of site) → (function ≡ other) × (place ≡ further)
   alone function place other further site h k =
       let one = at_row p function place site h in
       let two = at_row p other further site k in

@@ -293,7 +293,7 @@ class_found site (t ∷ ts) (suc p) s at =
     let order : site + sites_of t + site_count (take p ts) ≡ site + (sites_of t + site_count (take p ts)) = omega arith in
     class_found (site + sites_of t) ts p s at ∙ ap (λ n. Some (class_of n s)) order
 
-classes_found : (site : ℕ) (rows : List (List Sharing)) (index : ℕ) (ss : List Sharing) → slice_get rows index ≡ Some ss →
+pub classes_found : (site : ℕ) (rows : List (List Sharing)) (index : ℕ) (ss : List Sharing) → slice_get rows index ≡ Some ss →
     slice_get (all_classes_from site rows) index ≡ Some (classes_from (site + sum_by site_count (take index rows)) ss)
 classes_found site [] index ss at = absurd (cc)
 classes_found site (t ∷ ts) zero ss at =
@@ -305,7 +305,7 @@ classes_found site (t ∷ ts) (suc index) ss at =
     let order : site + site_count t + sum_by site_count (take index ts) ≡ site + sum_by site_count (t ∷ take index ts) = omega (arith, both) in
     classes_found (site + site_count t) ts index ss at ∙ ap (λ n. Some (classes_from n ss)) order
 
-sharings_found : (mains : ℕ) (shared : List Shared) (fs : List MidFunction) (index : ℕ) (s : Shared) (f : MidFunction) → slice_get shared index ≡ Some s → slice_get fs index ≡ Some f →
+pub sharings_found : (mains : ℕ) (shared : List Shared) (fs : List MidFunction) (index : ℕ) (s : Shared) (f : MidFunction) → slice_get shared index ≡ Some s → slice_get fs index ≡ Some f →
     slice_get (sharings_of mains shared fs) index ≡ Some (sharings mains s 0 f.code)
 sharings_found mains [] fs index s f at_shared at = absurd (cc)
 sharings_found mains (t ∷ ts) [] index s f at_shared at = absurd (cc)
@@ -315,7 +315,7 @@ sharings_found mains (t ∷ ts) (g ∷ gs) zero s f at_shared at =
     ap (λ (h : MidFunction). Some (sharings mains t 0 h.code)) same ∙ ap (λ u. Some (sharings mains u 0 f.code)) same_shared
 sharings_found mains (t ∷ ts) (g ∷ gs) (suc index) s f at_shared at = sharings_found mains ts gs index s f at_shared at
 
-version_found : (table : Table) (rows : List (List Class)) (fs : List MidFunction) (index : ℕ) (cs : List Class) (f : MidFunction) → slice_get rows index ≡ Some cs → slice_get fs index ≡ Some f →
+pub version_found : (table : Table) (rows : List (List Class)) (fs : List MidFunction) (index : ℕ) (cs : List Class) (f : MidFunction) → slice_get rows index ≡ Some cs → slice_get fs index ≡ Some f →
     slice_get (versions_from table rows fs) index ≡ Some (version_of table cs f)
 version_found table [] fs index cs f at_class at = absurd (cc)
 version_found table (ds ∷ rest) [] index cs f at_class at = absurd (cc)

@@ -63,7 +63,8 @@ module _ (function : MidFunction) (shared : Shared) where
     pub registers : length shared.registers ≡ length function.kinds
     pub places : length shared.places ≡ length function.code
     pub addresses : (register : ℕ) → is_marked shared.registers register ≡ true → slice_get function.kinds register ≡ Some Address
-    pub opens : (place : ℕ) (l : MidLine) → slice_get function.code place ≡ Some l → is_marked shared.places place ≡ true → begins_object l.mid ≡ true
+    pub opens : (place : ℕ) (l : MidLine) → slice_get function.code place ≡ Some l → is_marked shared.places place ≡ true
+        → begins_object l.mid ≡ true
     -- the parameters are the first registers
     pub params : (register : ℕ) → register < parameters → IsShared register
     pub each : (place : ℕ) (l : MidLine) → slice_get function.code place ≡ Some l → KeepsShared place l.mid
@@ -71,7 +72,8 @@ module _ (function : MidFunction) (shared : Shared) where
 -- the sets of a program's functions are closed, each for the parameters of its type
 pub record AreClosed (p : SharedProgram) : Type 0 where
   pub count : length p.shared ≡ length (protected_functions p.program)
-  pub each : (index : ℕ) (f : MidFunction) (s : Shared) (type : FunType) → slice_get (protected_functions p.program) index ≡ Some f → slice_get p.shared index ≡ Some s
+  pub each : (index : ℕ) (f : MidFunction) (s : Shared) (type : FunType)
+      → slice_get (protected_functions p.program) index ≡ Some f → slice_get p.shared index ≡ Some s
       → slice_get p.program.types f.ty ≡ Some type → IsClosed f s (length type.params)
 
 -- all is shared: each `Address`, and each `Open`

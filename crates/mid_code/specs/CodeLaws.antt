@@ -19,14 +19,16 @@ pub record StandsIn (table : Table) (cs : List Class) (f : MidFunction) (i : ℕ
   pub at : slice_get f.code place ≡ Some line
   pub within : k < size_of table class line.mid
   pub is : i ≡ place_in table cs f.code place + k
-  pub instruction : slice_get (version_of table cs f).code i ≡ slice_get (with_line line.line (group_of table (place_in table cs f.code) place class line.mid)) k
+  pub instruction : slice_get (version_of table cs f).code i
+      ≡ slice_get (with_line line.line (group_of table (place_in table cs f.code) place class line.mid)) k
 
 -- each place of a version stands in one group alone, and a group has from 1 to 20 instructions
 pub record HasGroups (table : Table) : Type 0 where
   pub some : (class : Class) (mid : Mid) → 1 ≤ size_of table class mid
   pub few : (class : Class) (mid : Mid) → size_of table class mid ≤ 20
   pub sized : (moved : ℕ → ℕ) (place : ℕ) (class : Class) (mid : Mid) → length (group_of table moved place class mid) ≡ size_of table class mid
-  pub stands : (cs : List Class) (f : MidFunction) (i : ℕ) → length cs ≡ length f.code → i < length (version_of table cs f).code → StandsIn table cs f i
+  pub stands : (cs : List Class) (f : MidFunction) (i : ℕ) → length cs ≡ length f.code → i < length (version_of table cs f).code
+      → StandsIn table cs f i
   pub alone : (cs : List Class) (f : MidFunction) (i : ℕ) (first second : StandsIn table cs f i) → (first.place ≡ second.place) × (first.k ≡ second.k)
 
 -- the site of the instruction at a place of a function, if it has one
@@ -44,7 +46,10 @@ site_at p (suc before) place = site_in (classes_of p) before place
 
 -- each site is that of one instruction, or of one wrapper. The instructions come first, from 1
 pub record HasOneOfEach (p : SharedProgram) : Type 0 where
-  pub alone : (function place other further : ℕ) (site : ℕ) → site_at p function place ≡ Some (site_of site) → site_at p other further ≡ Some (site_of site) → (function ≡ other) × (place ≡ further)
+  pub alone : (function place other further site : ℕ) → site_at p function place ≡ Some (site_of site)
+      → site_at p other further ≡ Some (site_of site) → (function ≡ other) × (place ≡ further)
   pub first : (function place site : ℕ) → site_at p function place ≡ Some (site_of site) → (1 ≤ site) × (site ≤ instruction_sites p)
-  pub wrapped : (function : ℕ) → 1 ≤ function → function ≤ p.program.main_functions → function ≢ p.program.main → (instruction_sites p < wrapper_site p function) × (wrapper_site p function ≤ all_sites p)
-  pub wrapped_alone : (function other : ℕ) → 1 ≤ function → 1 ≤ other → function ≢ p.program.main → other ≢ p.program.main → wrapper_site p function ≡ wrapper_site p other → function ≡ other
+  pub wrapped : (function : ℕ) → 1 ≤ function → function ≤ p.program.main_functions → function ≢ p.program.main
+      → (instruction_sites p < wrapper_site p function) × (wrapper_site p function ≤ all_sites p)
+  pub wrapped_alone : (function other : ℕ) → 1 ≤ function → 1 ≤ other → function ≢ p.program.main → other ≢ p.program.main
+      → wrapper_site p function ≡ wrapper_site p other → function ≡ other

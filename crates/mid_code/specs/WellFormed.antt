@@ -65,7 +65,8 @@ module _ (program : MidProgram) (function : MidFunction) (place : ℕ) where
 -- registers have these kinds, one after another
 pub record HaveKinds (kinds : List RegisterKind) (registers : List ℕ) (wanted : List RegisterKind) : Type 0 where
   pub count : length registers ≡ length wanted
-  pub each : (k register : ℕ) (kind : RegisterKind) → slice_get registers k ≡ Some register → slice_get wanted k ≡ Some kind → slice_get kinds register ≡ Some kind
+  pub each : (k register : ℕ) (kind : RegisterKind) → slice_get registers k ≡ Some register → slice_get wanted k ≡ Some kind
+      → slice_get kinds register ≡ Some kind
 
 -- a call of a function of a type: its arguments have the kinds of the parameters, and its target has that of the result
 pub record FitsType (kinds : List RegisterKind) (target : ℕ) (args : List ℕ) (type : FunType) : Type 0 where
@@ -95,8 +96,10 @@ module _ (program : MidProgram) (number : ℕ) (function : MidFunction) (type : 
   FitsTypes (JumpN source place) = Unit {0}
   FitsTypes Turn = Unit {0}
   FitsTypes (Call target callee args) =
-      (called : MidFunction) (of : FunType) → function_at program callee ≡ Some called → slice_get program.types called.ty ≡ Some of → FitsType function.kinds target (registers_list args) of
-  FitsTypes (CallPtr target callee ty args) = (of : FunType) → slice_get program.types ty ≡ Some of → FitsType function.kinds target (registers_list args) of
+      (called : MidFunction) (of : FunType) → function_at program callee ≡ Some called → slice_get program.types called.ty ≡ Some of
+      → FitsType function.kinds target (registers_list args) of
+  FitsTypes (CallPtr target callee ty args) =
+      (of : FunType) → slice_get program.types ty ≡ Some of → FitsType function.kinds target (registers_list args) of
   FitsTypes (Return source) = (number ≢ program.main) × (slice_get function.kinds source ≡ Some type.result)
   FitsTypes (Put source) = Unit {0}
   FitsTypes (Get target) = Unit {0}
