@@ -23,7 +23,6 @@ pub mod StepsNear
 pub mod StartFits
 pub mod RunsEnd
 pub mod ValuesSmall
-pub mod SizesBounded
 pub mod OtherTraps
 pub mod InstructionsCounted
 pub mod StoreTraps

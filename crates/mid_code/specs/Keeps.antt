@@ -25,49 +25,49 @@ pub record Write : Type 0 where
   pub kind : RegisterKind
 
 -- what an instruction does with a cell
-pub data Cell : Type 0 where
+pub data CellUse : Type 0 where
   -- a register takes the value to which another points
-  ReadsCell : (target : ℕ) (pointer : ℕ) → Cell
+  ReadsCell : (target : ℕ) (pointer : ℕ) → CellUse
   -- the cell to which a register points takes the value of another
-  WritesCell : (pointer : ℕ) (source : ℕ) → Cell
-  NoCell : Cell
+  WritesCell : (pointer : ℕ) (source : ℕ) → CellUse
+  NoCell : CellUse
 
-abbrev pub cell_of : Mid → Cell
-cell_of (Const target value) = NoCell
-cell_of (Move target source) = NoCell
-cell_of (Arith op ty target left right) = NoCell
-cell_of (Conv from to target source) = NoCell
-cell_of (PtrAdd target pointer index ty negated scale) = NoCell
-cell_of (PtrDiff target left right scale) = NoCell
-cell_of (PtrCmp op target left right) = NoCell
-cell_of (GlobAddr target object) = NoCell
-cell_of (FunAddr target function) = NoCell
-cell_of (Load target pointer) = ReadsCell target pointer
-cell_of (Store pointer source) = WritesCell pointer source
-cell_of (VLoad target pointer) = ReadsCell target pointer
-cell_of (VStore pointer source) = WritesCell pointer source
-cell_of (Open target cells) = NoCell
-cell_of (Close place) = NoCell
-cell_of (Jump place) = NoCell
-cell_of (JumpZ source place) = NoCell
-cell_of (JumpN source place) = NoCell
-cell_of Turn = NoCell
-cell_of (Call target function args) = NoCell
-cell_of (CallPtr target callee ty args) = NoCell
-cell_of (Return source) = NoCell
-cell_of (Put source) = NoCell
-cell_of (Get target) = NoCell
-cell_of (Exit source) = NoCell
+abbrev pub cell_use : Mid → CellUse
+cell_use (Const target value) = NoCell
+cell_use (Move target source) = NoCell
+cell_use (Arith op ty target left right) = NoCell
+cell_use (Conv from to target source) = NoCell
+cell_use (PtrAdd target pointer index ty negated scale) = NoCell
+cell_use (PtrDiff target left right scale) = NoCell
+cell_use (PtrCmp op target left right) = NoCell
+cell_use (GlobAddr target object) = NoCell
+cell_use (FunAddr target function) = NoCell
+cell_use (Load target pointer) = ReadsCell target pointer
+cell_use (Store pointer source) = WritesCell pointer source
+cell_use (VLoad target pointer) = ReadsCell target pointer
+cell_use (VStore pointer source) = WritesCell pointer source
+cell_use (Open target cells) = NoCell
+cell_use (Close place) = NoCell
+cell_use (Jump place) = NoCell
+cell_use (JumpZ source place) = NoCell
+cell_use (JumpN source place) = NoCell
+cell_use Turn = NoCell
+cell_use (Call target function args) = NoCell
+cell_use (CallPtr target callee ty args) = NoCell
+cell_use (Return source) = NoCell
+cell_use (Put source) = NoCell
+cell_use (Get target) = NoCell
+cell_use (Exit source) = NoCell
 
-abbrev pub cell_at : Option MidLine → Cell
-cell_at None = NoCell
-cell_at (Some l) = cell_of l.mid
+abbrev pub cell_use_at : Option MidLine → CellUse
+cell_use_at None = NoCell
+cell_use_at (Some l) = cell_use l.mid
 
 -- the next instruction's
-abbrev pub next_cell : MidProgram → State → Cell
-next_cell program s = cell_at (line_at program s.machine.top.function s.machine.top.place)
+abbrev pub next_cell_use : MidProgram → State → CellUse
+next_cell_use program s = cell_use_at (line_at program s.machine.top.function s.machine.top.place)
 
--- whether a register of an activation is of kind `Address`, and its kind
+-- the kind of a register of an activation, where its function has it
 abbrev pub kind_in : Option MidFunction → ℕ → Option RegisterKind
 kind_in None r = None
 kind_in (Some code) r = slice_get code.kinds r
@@ -89,13 +89,13 @@ with_write pointer None writes = writes
 with_write pointer (Some kind) writes = record { pointer = pointer; kind = kind } ∷ writes
 
 -- the writes after an instruction of an activation
-abbrev pub writes_by : MidProgram → Activation → Cell → List Write → List Write
+abbrev pub writes_by : MidProgram → Activation → CellUse → List Write → List Write
 writes_by program a (ReadsCell target pointer) writes = writes
 writes_by program a (WritesCell pointer source) writes = with_write (register a pointer) (kind_of program a source) writes
 writes_by program a NoCell writes = writes
 
 abbrev pub writes_after : MidProgram → List Write → State → List Write
-writes_after program writes s = writes_by program s.machine.top (next_cell program s) writes
+writes_after program writes s = writes_by program s.machine.top (next_cell_use program s) writes
 
 -- a value in a cell is an address by how the cell came to hold it: by the last write there, or from the start
 abbrev pub came_as_address : MidProgram → Option Write → ℕ → Bool
@@ -108,7 +108,7 @@ is_kept program writes pointer (Ok value) = value == 0 || came_as_address progra
 is_kept program writes pointer (Err trap) = true
 
 -- whether an instruction that reads memory into an address register takes such a value
-abbrev pub keeps_by : MidProgram → List Write → State → Cell → Bool
+abbrev pub keeps_by : MidProgram → List Write → State → CellUse → Bool
 keeps_by program writes s (ReadsCell target pointer) =
     not (holds_address (kind_of program s.machine.top target))
     || is_kept program writes (register s.machine.top pointer) (read_of s.memory (register s.machine.top pointer))
@@ -117,7 +117,7 @@ keeps_by program writes s NoCell = true
 
 -- whether the next instruction does, after these writes
 abbrev pub keeps_next : MidProgram → List Write → State → Bool
-keeps_next program writes s = keeps_by program writes s (next_cell program s)
+keeps_next program writes s = keeps_by program writes s (next_cell_use program s)
 
 -- whether the next so many do
 abbrev pub keeps_for : MidProgram → ℕ → List Write → State → Bool
