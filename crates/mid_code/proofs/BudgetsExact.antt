@@ -37,7 +37,8 @@ IfBalanced program limits turns (Running s events) = Balanced program limits tur
 IfBalanced program limits turns (Ended end events) = Unit {0}
 IfBalanced program limits turns NoWay = Unit {0}
 
-balanced_preceded : (program : MidProgram) (limits : Limits) (turns more : Part → ℕ) (before : List Event) (r : Run) → ((part : Part) → turns part ≡ more part) →
+balanced_preceded : (program : MidProgram) (limits : Limits) (turns more : Part → ℕ) (before : List Event) (r : Run) →
+    ((part : Part) → turns part ≡ more part) →
     IfBalanced program limits turns r → IfBalanced program limits more (preceded before r)
 balanced_preceded program limits turns more before (Running s events) same h = record {
   turns_left = λ part. omega (arith, same part, h.turns_left part);

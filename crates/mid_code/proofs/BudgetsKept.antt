@@ -33,7 +33,8 @@ IfGoesOn program m c (Ends end events) = Unit {0}
 IfGoesOn program m c Stuck = Unit {0}
 
 -- a part's budget as it is, in both
-same_budget : (own part : Part) (budget : Budget) (budgets : Budgets) → budget ≡ budget_of own budgets → budget_of part (with_budget own budget budgets) ≡ budget_of part budgets
+same_budget : (own part : Part) (budget : Budget) (budgets : Budgets) → budget ≡ budget_of own budgets →
+    budget_of part (with_budget own budget budgets) ≡ budget_of part budgets
 same_budget Protected Protected budget budgets e = e
 same_budget Protected Binary budget budgets e = refl
 same_budget Binary Protected budget budgets e = refl
@@ -56,7 +57,8 @@ module _ (program : MidProgram) (s : State) where
   top_on : (a : Activation) → s.machine.top.function ≡ a.function → (part : Part) → AfterCount program s.machine (with_top a s.machine) Uncounted part
   top_on a e part = record { turns = omega arith; depth = omega (arith, live_same program part s.machine.top a s.machine.below e) }
 
-  local_on : (next : Local) → Quiet program (local_of program s.machine) (Goes next) → (part : Part) → AfterCount program s.machine (with_local program next s.machine) Uncounted part
+  local_on : (next : Local) → Quiet program (local_of program s.machine) (Goes next) → (part : Part) →
+      AfterCount program s.machine (with_local program next s.machine) Uncounted part
   local_on next h part =
       let same = same_budget (part_of_function program s.machine.top.function) part next.budget s.machine.budgets h.0 in
       record {
@@ -180,11 +182,13 @@ call_tests program s part line d c =
     }
 
 -- a turn at the part of the function that runs
-pub turn_tests : (program : MidProgram) (s : State) (line : ℕ) (d : Does) → d ≡ counts line (local_of program s.machine) (after_turn (local_of program s.machine).budget) →
+pub turn_tests : (program : MidProgram) (s : State) (line : ℕ) (d : Does) →
+    d ≡ counts line (local_of program s.machine) (after_turn (local_of program s.machine).budget) →
     step_by program d s ≡ turned program s line ((local_of program s.machine).budget.turns == 0)
 turn_tests program s line d e = ap (λ x. step_by program x s) e
 
-goes_by : (program : MidProgram) (s : State) (c : Counting) (d : Does) → Counted program (local_of program s.machine) c d → IfGoesOn program s.machine c (step_by program d s)
+goes_by : (program : MidProgram) (s : State) (c : Counting) (d : Does) → Counted program (local_of program s.machine) c d →
+    IfGoesOn program s.machine c (step_by program d s)
 goes_by program s Uncounted d h = quiet_on program s d h
 goes_by program s (OneTurn own line) d h =
     subst (λ p. IfGoesOn program s.machine (OneTurn p line) (step_by program d s)) h.0

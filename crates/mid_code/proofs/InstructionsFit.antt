@@ -325,7 +325,8 @@ module _ (program : MidProgram) (l : Local) (w : IsWithin program l.at) (line : 
       )
 
   -- a `Close` that is reached names the newest object
-  close_fits : (place : ℕ) → Stands program l.at w line (Close place) → (opened : List Opened) → l.at.opened ≡ opened → Sound program l (closes place line opened)
+  close_fits : (place : ℕ) → Stands program l.at w line (Close place) → (opened : List Opened) → l.at.opened ≡ opened →
+      Sound program l (closes place line opened)
   close_fits place stands [] is =
       let found : found_at w.code.code l.at.place ≡ Some [] = w.opened ∙ ap (λ os. Some (map (λ o. o.place) os)) is in
       let order = in_order w.code.code l.at.place (Close place) [] stands.rules.ordered found in

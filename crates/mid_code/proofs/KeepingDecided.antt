@@ -13,7 +13,8 @@ use Rattle.mid_code.proofs.RunsEnd.{made_and_left}
 use Rattle.mid_code.proofs.StartFits.{fits_started}
 
 -- a run after earlier events goes on where it does without them
-running_behind : (before : List Event) (r : Run) (t : State) (events : List Event) → preceded before r ≡ Running t events → (seen : List Event) × (r ≡ Running t seen)
+running_behind : (before : List Event) (r : Run) (t : State) (events : List Event) → preceded before r ≡ Running t events →
+    (seen : List Event) × (r ≡ Running t seen)
 running_behind before (Running m seen) t events e = let same : m ≡ t = cc in (seen, ap (λ x. Running x seen) same)
 running_behind before (Ended end seen) t events e = absurd (cc)
 running_behind before NoWay t events e = absurd (cc)

@@ -20,7 +20,8 @@ with_part : (memory : Memory) (part : Part) (s : Objects) → IsMemory memory �
 with_part memory Protected s h k = record { protected = k; binary = h.binary }
 with_part memory Binary s h k = record { protected = h.protected; binary = k }
 
-count_with : (memory : Memory) (part : Part) (s : Objects) → live_count (with_objects part memory s) + length (objects_of part memory).live ≡ live_count memory + length s.live
+count_with : (memory : Memory) (part : Part) (s : Objects) →
+    live_count (with_objects part memory s) + length (objects_of part memory).live ≡ live_count memory + length s.live
 count_with memory Protected s = omega arith
 count_with memory Binary s = omega arith
 
@@ -28,7 +29,8 @@ count_with memory Binary s = omega arith
 abbrev pub AfterWrite : Memory → Memory → Type 0
 AfterWrite memory next = IsMemory next × (live_count next ≡ live_count memory)
 
-wrote_by : (memory : Memory) (part : Part) (pointer value : ℕ) (r : Result Object Trap) → IsMemory memory → IsValue value → IfOk (changed part memory (if_passed (λ _. written (objects_of part memory) pointer value) r)) (AfterWrite memory)
+wrote_by : (memory : Memory) (part : Part) (pointer value : ℕ) (r : Result Object Trap) → IsMemory memory → IsValue value →
+    IfOk (changed part memory (if_passed (λ _. written (objects_of part memory) pointer value) r)) (AfterWrite memory)
 wrote_by memory part pointer value (Err trap) h small = tt
 wrote_by memory part pointer value (Ok object) h small =
     let s = objects_of part memory in (
@@ -75,14 +77,16 @@ began memory part cells h some =
     began_by memory part cells h some (nat_lt (last_number part) s.fresh) (nat_lt s.budget (live_cells s + cells)) refl refl
 
 -- after an object has ended: one object less lives at most
-none_removed : (number least : ℕ) (objects : List Object) (fresh : ℕ) → number < least → AreRising least objects fresh → length (filter (λ object. not (object.number == number)) objects) ≡ length objects
+none_removed : (number least : ℕ) (objects : List Object) (fresh : ℕ) → number < least → AreRising least objects fresh →
+    length (filter (λ object. not (object.number == number)) objects) ≡ length objects
 none_removed number least [] fresh low h = refl
 none_removed number least (o ∷ objects) fresh low h =
     let other : (o.number == number) ≡ false = ne_eqb o.number number (λ e. omega (arith, e, h.0, low)) in
     let rest = none_removed number (o.number + 1) objects fresh (omega (arith, h.0, low)) h.1 in
     rw other (omega (arith, rest))
 
-one_removed : (number least : ℕ) (objects : List Object) (fresh : ℕ) → AreRising least objects fresh → length objects ≤ length (filter (λ object. not (object.number == number)) objects) + 1
+one_removed : (number least : ℕ) (objects : List Object) (fresh : ℕ) → AreRising least objects fresh →
+    length objects ≤ length (filter (λ object. not (object.number == number)) objects) + 1
 one_removed number least [] fresh h = omega arith
 one_removed number least (o ∷ objects) fresh h =
     elim (o.number == number) as (λ b. o.number == number ≡ b → length (o ∷ objects) ≤ length (if not b then o ∷ filter (λ object. not (object.number == number)) objects else filter (λ object. not (object.number == number)) objects) + 1) [
@@ -90,7 +94,8 @@ one_removed number least (o ∷ objects) fresh h =
       | false ↦ λ e. omega (arith, one_removed number (o.number + 1) objects fresh h.1)
     ] refl
 
-finished_by : (memory : Memory) (part : Part) (number : ℕ) → IsMemory memory → IsMemory (with_objects part memory (end_of (objects_of part memory) number)) × (live_count memory ≤ live_count (with_objects part memory (end_of (objects_of part memory) number)) + 1)
+finished_by : (memory : Memory) (part : Part) (number : ℕ) → IsMemory memory →
+    IsMemory (with_objects part memory (end_of (objects_of part memory) number)) × (live_count memory ≤ live_count (with_objects part memory (end_of (objects_of part memory) number)) + 1)
 finished_by memory part number h =
     let s = objects_of part memory in
     let k = part_of_memory memory part h in (
@@ -98,5 +103,6 @@ finished_by memory part number h =
       omega (arith, count_with memory part (end_of s number), one_removed number (first_number part) s.live s.fresh k.rising),
     )
 
-pub finished : (memory : Memory) (number : ℕ) → IsMemory memory → IsMemory (finish_of memory number) × (live_count memory ≤ live_count (finish_of memory number) + 1)
+pub finished : (memory : Memory) (number : ℕ) → IsMemory memory →
+    IsMemory (finish_of memory number) × (live_count memory ≤ live_count (finish_of memory number) + 1)
 finished memory number h = finished_by memory (part_of_number number) number h

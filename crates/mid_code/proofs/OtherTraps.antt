@@ -103,7 +103,8 @@ drawn_store true full count = refl
 drawn_store false true count = refl
 drawn_store false false count = tt
 
-begun_store : (part : Part) (memory : Memory) (s : Objects) (cells : ℕ) (r : Result Count Trap) → IfErr r IsStore → IfErr (changed part memory (begun_if r s cells)) IsStore
+begun_store : (part : Part) (memory : Memory) (s : Objects) (cells : ℕ) (r : Result Count Trap) → IfErr r IsStore →
+    IfErr (changed part memory (begun_if r s cells)) IsStore
 begun_store part memory s cells (Ok count) h = tt
 begun_store part memory s cells (Err trap) h = h
 

@@ -23,7 +23,8 @@ found_too P test (y ∷ ys) x all h =
     ] h
 
 -- an access that passes its tests has an object of the part
-passed_object : (P : Object → Type 0) (writes : Bool) (s : Objects) (pointer : ℕ) (object : Object) → All P s.live → access_of writes s pointer ≡ Ok object → P object
+passed_object : (P : Object → Type 0) (writes : Bool) (s : Objects) (pointer : ℕ) (object : Object) → All P s.live →
+    access_of writes s pointer ≡ Ok object → P object
 passed_object P writes s pointer object all h =
     elim (object_part pointer == 0) as (λ b. (if b then Err NullPointer else access_in writes (live_at s (object_part pointer)) (offset_part pointer)) ≡ Ok object → P object) [
       | true ↦ λ e. absurd (cc)
@@ -42,7 +43,8 @@ passed_object P writes s pointer object all h =
         ] e
 
 -- what is read is a value
-read_part : (s : Objects) (pointer : ℕ) (r : Result Object Trap) → All HoldsValues s.live → access_of false s pointer ≡ r → IfOk (if_passed (λ object. slice_index object.cells (offset_part pointer)) r) IsValue
+read_part : (s : Objects) (pointer : ℕ) (r : Result Object Trap) → All HoldsValues s.live → access_of false s pointer ≡ r →
+    IfOk (if_passed (λ object. slice_index object.cells (offset_part pointer)) r) IsValue
 read_part s pointer (Err trap) all h = tt
 read_part s pointer (Ok object) all h = read_small object.cells (offset_part pointer) (passed_object HoldsValues false s pointer object all h)
 
@@ -65,13 +67,15 @@ record IsKept (f : Object → Object) : Type 0 where
   number : (object : Object) → (f object).number ≡ object.number
   count : (object : Object) → length (f object).cells ≡ length object.cells
 
-rising_map : (f : Object → Object) → IsKept f → (least : ℕ) (objects : List Object) (fresh : ℕ) → AreRising least objects fresh → AreRising least (map f objects) fresh
+rising_map : (f : Object → Object) → IsKept f → (least : ℕ) (objects : List Object) (fresh : ℕ) → AreRising least objects fresh →
+    AreRising least (map f objects) fresh
 rising_map f k least [] fresh h = h
 rising_map f k least (object ∷ objects) fresh h =
     let same = k.number object in
     (omega (arith, h.0, same), rising_lower (object.number + 1) ((f object).number + 1) (map f objects) fresh (omega (arith, same)) (rising_map f k (object.number + 1) objects fresh h.1))
 
-cells_map : (f : Object → Object) → IsKept f → (objects : List Object) → sum_by (λ (o : Object). length o.cells) (map f objects) ≡ sum_by (λ (o : Object). length o.cells) objects
+cells_map : (f : Object → Object) → IsKept f → (objects : List Object) →
+    sum_by (λ (o : Object). length o.cells) (map f objects) ≡ sum_by (λ (o : Object). length o.cells) objects
 cells_map f k [] = refl
 cells_map f k (object ∷ objects) =
     omega (arith, sum_by-cons (λ (o : Object). length o.cells) (f object) (map f objects), sum_by-cons (λ (o : Object). length o.cells) object objects, cells_map f k objects, k.count object)
@@ -102,12 +106,14 @@ written_part part s pointer value small h = record {
 }
 
 -- beginning
-rising_push : (least : ℕ) (objects : List Object) (fresh : ℕ) (object : Object) → AreRising least objects fresh → fresh ≤ object.number → AreRising least (objects ++ object ∷ []) (object.number + 1)
+rising_push : (least : ℕ) (objects : List Object) (fresh : ℕ) (object : Object) → AreRising least objects fresh → fresh ≤ object.number →
+    AreRising least (objects ++ object ∷ []) (object.number + 1)
 rising_push least [] fresh object h above = (omega (arith, h, above), omega arith)
 rising_push least (o ∷ objects) fresh object h above = (h.0, rising_push (o.number + 1) objects fresh object h.1 above)
 
 -- ending
-rising_filter : (test : Object → Bool) (least : ℕ) (objects : List Object) (fresh : ℕ) → AreRising least objects fresh → AreRising least (filter test objects) fresh
+rising_filter : (test : Object → Bool) (least : ℕ) (objects : List Object) (fresh : ℕ) → AreRising least objects fresh →
+    AreRising least (filter test objects) fresh
 rising_filter test least [] fresh h = h
 rising_filter test least (o ∷ objects) fresh h =
     let rest = rising_filter test (o.number + 1) objects fresh h.1 in
@@ -116,7 +122,8 @@ rising_filter test least (o ∷ objects) fresh h =
       | false ↦ rising_lower (o.number + 1) least (filter test objects) fresh (omega (arith, h.0)) rest
     ]
 
-cells_filter : (test : Object → Bool) (objects : List Object) → sum_by (λ (o : Object). length o.cells) (filter test objects) ≤ sum_by (λ (o : Object). length o.cells) objects
+cells_filter : (test : Object → Bool) (objects : List Object) →
+    sum_by (λ (o : Object). length o.cells) (filter test objects) ≤ sum_by (λ (o : Object). length o.cells) objects
 cells_filter test [] = omega arith
 cells_filter test (o ∷ objects) =
     let rest = cells_filter test objects in
@@ -138,7 +145,8 @@ ended_part part s number h =
       budget = h.budget;
     }
 
-pub begun_part : (part : Part) (s : Objects) (cells : ℕ) → 1 ≤ cells → s.fresh ≤ last_number part → live_cells s + cells ≤ s.budget → IsPart part s → IsPart part (begun s s.fresh cells false)
+pub begun_part : (part : Part) (s : Objects) (cells : ℕ) → 1 ≤ cells → s.fresh ≤ last_number part → live_cells s + cells ≤ s.budget → IsPart part s →
+    IsPart part (begun s s.fresh cells false)
 begun_part part s cells some last room h =
     let new : Object = record { number = s.fresh; cells = replicate cells 0; read_only = false } in
     let long = length-replicate {A = ℕ} cells 0 in

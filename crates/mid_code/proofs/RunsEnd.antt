@@ -38,7 +38,8 @@ ended_then program s (Ends end events) rest most sound near more = record { end 
 ended_then program s Stuck rest most sound near more = absurd sound
 
 -- one step more than are left is enough
-ends_within : (program : MidProgram) → IsValid program → (steps : ℕ) (s : State) → Fits program s → left_to_go program s.machine < steps → HasEnded steps (exec program steps s)
+ends_within : (program : MidProgram) → IsValid program → (steps : ℕ) (s : State) → Fits program s → left_to_go program s.machine < steps →
+    HasEnded steps (exec program steps s)
 ends_within program valid zero s fits few = absurd (omega (arith, few))
 ends_within program valid (suc more) s fits few =
     ended_then program s (step program s) (exec program more) more (sound_step program s valid fits) (step_nears program s valid fits.machine)
@@ -50,7 +51,8 @@ Further program steps left (Running s events) = (steps + left_to_go program s.ma
 Further program steps left (Ended end events) = Unit {0}
 Further program steps left NoWay = Unit {0}
 
-goes_further : (program : MidProgram) (before : List Event) (steps left more : ℕ) (r : Run) → length before ≤ 1 → left < more → Further program steps left r → Further program (suc steps) more (preceded before r)
+goes_further : (program : MidProgram) (before : List Event) (steps left more : ℕ) (r : Run) → length before ≤ 1 → left < more →
+    Further program steps left r → Further program (suc steps) more (preceded before r)
 goes_further program before steps left more (Running s events) one less h = (omega (arith, less, h.0), omega (arith, one, h.1, length-append before events))
 goes_further program before steps left more (Ended end events) one less h = tt
 goes_further program before steps left more NoWay one less h = tt
@@ -62,7 +64,8 @@ goes_then program s (On next events) rest steps sound near more =
 goes_then program s (Ends end seen) rest steps sound near more = tt
 goes_then program s Stuck rest steps sound near more = tt
 
-goes_on : (program : MidProgram) → IsValid program → (steps : ℕ) (s : State) → Fits program s → Further program steps (left_to_go program s.machine) (exec program steps s)
+goes_on : (program : MidProgram) → IsValid program → (steps : ℕ) (s : State) → Fits program s →
+    Further program steps (left_to_go program s.machine) (exec program steps s)
 goes_on program valid zero s fits = (omega arith, omega arith)
 goes_on program valid (suc more) s fits =
     goes_then program s (step program s) (exec program more) more (sound_step program s valid fits) (step_nears program s valid fits.machine) (λ next fits'. goes_on program valid more next fits')
@@ -73,7 +76,8 @@ pub made_and_left : (program : MidProgram) → IsValid program → (steps : ℕ)
 made_and_left program valid steps s t events fits e = (subst (Further program steps (left_to_go program s.machine)) e (goes_on program valid steps s fits)).0
 
 -- at the start fewer than 2^62 - 1 steps are left
-left_at_start : (program : MidProgram) (limits : Limits) → IsValid program → FitLimits program limits → left_to_go program (started_machine program limits) + 1 < 2 ^ 62
+left_at_start : (program : MidProgram) (limits : Limits) → IsValid program → FitLimits program limits →
+    left_to_go program (started_machine program limits) + 1 < 2 ^ 62
 left_at_start program limits valid fit =
     let h = machine_started program limits valid fit in
     omega (arith, fit.turns, few_to_turn program (started_machine program limits).top valid h.top)

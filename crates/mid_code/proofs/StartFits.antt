@@ -80,7 +80,8 @@ good_objects first (object ∷ objects) h =
       count = omega (arith, sum_by-cons (λ (o : Object). length o.cells) (static_object first object) (static_objects (first + 1) objects), sum_by-cons (λ (o : Static). o.cells) object objects, count, rest.count);
     }
 
-started_part : (part : Part) (statics : List Static) (cells : ℕ) → has_bad_statics statics ≡ false → static_cells statics ≤ cells → cells ≤ 1048576 → first_number part + 1048576 ≤ last_number part → IsPart part (started_objects part statics cells)
+started_part : (part : Part) (statics : List Static) (cells : ℕ) → has_bad_statics statics ≡ false → static_cells statics ≤ cells → cells ≤ 1048576 →
+    first_number part + 1048576 ≤ last_number part → IsPart part (started_objects part statics cells)
 started_part part statics cells h room limit numbers =
     let g = good_objects (first_number part) statics (neither (list_any is_bad_static statics) (nat_lt 1048576 (sum_by (λ object. object.cells) statics)) h).0 in
     record {
@@ -112,7 +113,8 @@ abbrev pub with_main : MidProgram → Limits → Option MidFunction → Machine
 with_main program limits f =
     record { top = main_activation program f; below = []; budgets = record { protected = spent (full_budget limits); binary = full_budget limits } }
 
-machine_with_main : (program : MidProgram) (limits : Limits) (f : MidFunction) → IsValid program → FitLimits program limits → function_at program program.main ≡ Some f → IsMachine program (with_main program limits (Some f))
+machine_with_main : (program : MidProgram) (limits : Limits) (f : MidFunction) → IsValid program → FitLimits program limits →
+    function_at program program.main ≡ Some f → IsMachine program (with_main program limits (Some f))
 machine_with_main program limits f valid fit found =
     let own = main_part program (whole program valid) in
     let one : live_of program Protected (activation_of program.main f [] 0 ∷ []) ≡ 1 = ap (λ p. one_if Protected p + 0) own in
@@ -135,7 +137,8 @@ none_open : (program : MidProgram) (f : Option MidFunction) → open_count (main
 none_open program None = refl
 none_open program (Some f) = refl
 
-pub fits_started : (program : MidProgram) (input : List ℕ) (limits : Limits) → IsValid program → FitLimits program limits → All (λ byte. byte < 256) input → Fits program (started program input limits)
+pub fits_started : (program : MidProgram) (input : List ℕ) (limits : Limits) → IsValid program → FitLimits program limits →
+    All (λ byte. byte < 256) input → Fits program (started program input limits)
 fits_started program input limits valid fit bytes = record {
   machine = machine_started program limits valid fit;
   memory = memory_started program limits (whole program valid) fit;

@@ -40,7 +40,8 @@ module _ (program : MidProgram) (s : State) (h : Fits program s) where
   passed_machine : IsWithin program (passed s.machine.top) → IsMachine program (with_top (passed s.machine.top) s.machine)
   passed_machine within = top_changed program s.machine (passed s.machine.top) h.machine refl refl within
 
-  given_machine : (target value : ℕ) → IsWithin program (given target value s.machine.top) → IsMachine program (with_top (given target value s.machine.top) s.machine)
+  given_machine : (target value : ℕ) → IsWithin program (given target value s.machine.top) →
+      IsMachine program (with_top (given target value s.machine.top) s.machine)
   given_machine target value within = top_changed program s.machine (given target value s.machine.top) h.machine refl refl within
 
   read_fits : (target line : ℕ) (events : List Event) (r : Result ℕ Trap) → IfOk r IsValue →
@@ -185,7 +186,8 @@ running_preceded program before (Running s events) h = h
 running_preceded program before (Ended end events) h = tt
 running_preceded program before NoWay h = tt
 
-running_then : (program : MidProgram) (s : Step) (rest : State → Run) → IsSound program s → ((next : State) → Fits program next → IfRunning program (rest next)) →
+running_then : (program : MidProgram) (s : Step) (rest : State → Run) → IsSound program s →
+    ((next : State) → Fits program next → IfRunning program (rest next)) →
     IfRunning program (then_run s rest)
 running_then program (On s events) rest sound more = running_preceded program events (rest s) (more s sound)
 running_then program (Ends end events) rest sound more = tt

@@ -33,7 +33,8 @@ module _ (program : MidProgram) (s : State) where
   top_nearer : (a : Activation) → to_turn program a < to_turn program s.machine.top → left_to_go program (with_top a s.machine) < left_to_go program s.machine
   top_nearer a near = omega (arith, near)
 
-  read_nears : (target line : ℕ) (events : List Event) (r : Result ℕ Trap) → IsNear → length events ≤ 1 → StepNears program s (after_read target line events s r)
+  read_nears : (target line : ℕ) (events : List Event) (r : Result ℕ Trap) → IsNear → length events ≤ 1 →
+      StepNears program s (after_read target line events s r)
   unfolding IsNear
   read_nears target line events (Ok value) near one = (top_nearer (given target value s.machine.top) near, one)
   read_nears target line events (Err trap) near one = omega arith

@@ -235,7 +235,8 @@ module _ (budget : ℕ) (program : MidProgram) (s : State) (line : ℕ) (h : Has
       let same : at ≡ line = cc in
       (same, subst (λ b. HasNoRoom b (own_part program s) s.memory cells) (h (own_part program s)) (no_room s.memory (own_part program s) cells trap is))
 
-  reach_forward : (l : MidLine) (access : Access) (at : ℕ) → OpensBy l.mid l.line (Reaches access at) → reach program access at s ≡ Ends (TrapEnd StoreTrap line) [] →
+  reach_forward : (l : MidLine) (access : Access) (at : ℕ) → OpensBy l.mid l.line (Reaches access at) →
+      reach program access at s ≡ Ends (TrapEnd StoreTrap line) [] →
       OpensPast budget program s line (Some l)
   reach_forward l (Opens target cells) at o e =
       let done = begin_trapped target cells at (begin_of (own_part program s) s.memory cells) refl e in
@@ -250,7 +251,8 @@ module _ (budget : ℕ) (program : MidProgram) (s : State) (line : ℕ) (h : Has
   reach_forward l (Gets target) at o e = absurd (reach_by program s at (Gets target) line e)
   reach_forward l (Exits value) at o e = absurd (reach_by program s at (Exits value) line e)
 
-  call_forward : (l : MidLine) (entry : Entry) → NoStoreEntry entry → after_call s entry ≡ Ends (TrapEnd StoreTrap line) [] → OpensPast budget program s line (Some l)
+  call_forward : (l : MidLine) (entry : Entry) → NoStoreEntry entry → after_call s entry ≡ Ends (TrapEnd StoreTrap line) [] →
+      OpensPast budget program s line (Some l)
   call_forward l (Entered machine) other e = absurd (cc)
   call_forward l (Refused trap at) other e = let same : trap ≡ StoreTrap = cc in absurd (other same)
   call_forward l NoFunction other e = absurd (cc)
@@ -259,7 +261,8 @@ module _ (budget : ℕ) (program : MidProgram) (s : State) (line : ℕ) (h : Has
   return_forward l (Some machine) e = absurd (cc)
   return_forward l None e = absurd (cc)
 
-  store_forward_by : (l : MidLine) (d : Does) → OpensBy l.mid l.line d → step_by program d s ≡ Ends (TrapEnd StoreTrap line) [] → OpensPast budget program s line (Some l)
+  store_forward_by : (l : MidLine) (d : Does) → OpensBy l.mid l.line d → step_by program d s ≡ Ends (TrapEnd StoreTrap line) [] →
+      OpensPast budget program s line (Some l)
   store_forward_by l (Goes next) o e = absurd (cc)
   store_forward_by l (Calls function args target) o e =
       let callers = waiting s.machine in
@@ -276,11 +279,13 @@ module _ (budget : ℕ) (program : MidProgram) (s : State) (line : ℕ) (h : Has
       let m = local_of program s.machine in
       store_forward_by l (act program l.mid l.line m) (act_opens program m l.line l.mid) e
 
-  pub store_forward : step program s ≡ Ends (TrapEnd StoreTrap line) [] → OpensPast budget program s line (line_at program s.machine.top.function s.machine.top.place)
+  pub store_forward : step program s ≡ Ends (TrapEnd StoreTrap line) [] →
+      OpensPast budget program s line (line_at program s.machine.top.function s.machine.top.place)
   unfolding does
   store_forward e = store_forward_at (line_at program s.machine.top.function s.machine.top.place) e
 
-  pub store_back : OpensPast budget program s line (line_at program s.machine.top.function s.machine.top.place) → step program s ≡ Ends (TrapEnd StoreTrap line) []
+  pub store_back : OpensPast budget program s line (line_at program s.machine.top.function s.machine.top.place) →
+      step program s ≡ Ends (TrapEnd StoreTrap line) []
   unfolding does
   store_back o =
       let part = own_part program s in
