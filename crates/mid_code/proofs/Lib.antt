@@ -10,6 +10,7 @@ pub mod VersionGroups
 pub mod AllShared
 pub mod OneSiteEach
 pub mod ValidInWords
+pub mod WordsValid
 pub mod RegistersLemmas
 pub mod Values
 pub mod Flowing

@@ -36,7 +36,7 @@ and_true : (a b : Bool) → (a && b) ≡ true → (a ≡ true) × (b ≡ true)
 and_true true b h = (refl, h)
 and_true false b h = absurd (cc)
 
-same_refl : (a : List ℕ) → same_places a a ≡ true
+pub same_refl : (a : List ℕ) → same_places a a ≡ true
 same_refl [] = refl
 same_refl (x ∷ xs) = ap (λ b. b && same_places xs xs) (eq-eqb x x refl) ∙ same_refl xs
 

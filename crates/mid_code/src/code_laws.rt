@@ -6,9 +6,10 @@ ghost use Rattle.mid_code.specs.Closed.{AreClosed, everything_shared};
 ghost use Rattle.mid_code.specs.Versions.{leading, trailing};
 ghost use Rattle.mid_code.specs.CodeLaws.{HasGroups, HasOneOfEach};
 
-/// A law: a valid program is well formed.
+/// A law: the valid programs are those that are well formed.
 pub fn valid_is_well_formed()
-    ensures { (program : MidProgram) → IsValid program → IsWellFormed program }
+    ensures formed { (program : MidProgram) → IsValid program → IsWellFormed program }
+    ensures valid { (program : MidProgram) → IsWellFormed program → IsValid program }
 {}
 
 /// A law: each place of a version is one of the group of one instruction, and each group has from
