@@ -59,63 +59,98 @@ fn numbers(alloc: Global, count: u16) -> Result<Items<RegisterKind>, AllocError>
     Ok(kinds)
 }
 
+fn add_numbers(
+    alloc: Global,
+    types: &mut Items<FunType>,
+    params: u16,
+    kind: RegisterKind,
+) -> Result<(), AllocError> {
+    let params = numbers(alloc, params)?;
+    types.push(FunType {
+        params,
+        result: kind,
+    })
+}
+
+fn add_address(alloc: Global, types: &mut Items<FunType>) -> Result<(), AllocError> {
+    let params = Items::from_slice(alloc, &[RegisterKind::Address])?;
+    types.push(FunType {
+        params,
+        result: RegisterKind::Number,
+    })
+}
+
 /// The types: none to a number, one and two numbers to a number and to an address, an address to a
 /// number, and so many numbers to a number.
 fn types(alloc: Global, params: u16) -> Result<Items<FunType>, AllocError> {
     let mut types = Items::new(alloc);
-    let result = RegisterKind::Number;
-    types.push(FunType {
-        params: Items::new(alloc),
-        result,
-    })?;
-    types.push(FunType {
-        params: numbers(alloc, 1)?,
-        result,
-    })?;
-    types.push(FunType {
-        params: numbers(alloc, 2)?,
-        result: RegisterKind::Address,
-    })?;
-    types.push(FunType {
-        params: Items::from_slice(alloc, &[RegisterKind::Address])?,
-        result,
-    })?;
-    types.push(FunType {
-        params: numbers(alloc, params)?,
-        result,
-    })?;
+    add_numbers(alloc, &mut types, 0, RegisterKind::Number)?;
+    add_numbers(alloc, &mut types, 1, RegisterKind::Number)?;
+    add_numbers(alloc, &mut types, 2, RegisterKind::Address)?;
+    add_address(alloc, &mut types)?;
+    add_numbers(alloc, &mut types, params, RegisterKind::Number)?;
     Ok(types)
+}
+
+fn add_static(alloc: Global, statics: &mut Items<Static>, shape: &Shape) -> Result<(), AllocError> {
+    let values = Items::from_slice(alloc, &shape.values)?;
+    statics.push(Static {
+        cells: shape.cells,
+        read_only: false,
+        values,
+    })
 }
 
 fn statics(alloc: Global, shape: &Shape) -> Result<Items<Static>, AllocError> {
     let mut statics = Items::new(alloc);
     for _ in 0..shape.statics {
-        let values = Items::from_slice(alloc, &shape.values)?;
-        statics.push(Static {
-            cells: shape.cells,
-            read_only: false,
-            values,
-        })?;
+        add_static(alloc, &mut statics, shape)?;
     }
     Ok(statics)
 }
 
-fn function(
-    alloc: Global,
-    ty: u16,
-    registers: u16,
-    code: &[Mid],
-) -> Result<MidFunction, AllocError> {
+fn lines(alloc: Global, code: &[Mid]) -> Result<Items<MidLine>, AllocError> {
     let mut lines = Items::new(alloc);
     for mid in code {
         lines.push(MidLine { line: 1, mid: *mid })?;
     }
-    Ok(MidFunction {
+    Ok(lines)
+}
+
+fn add_function(
+    alloc: Global,
+    functions: &mut Items<MidFunction>,
+    ty: u16,
+    registers: u16,
+    code: &[Mid],
+) -> Result<(), AllocError> {
+    let kinds = kinds(alloc, registers)?;
+    let code = lines(alloc, code)?;
+    functions.push(MidFunction {
         ty,
-        kinds: kinds(alloc, registers)?,
+        kinds,
         line: 1,
-        code: lines,
+        code,
     })
+}
+
+fn functions(
+    alloc: Global,
+    shape: &Shape,
+    main: &[Mid],
+    second: &[Mid],
+) -> Result<Items<MidFunction>, AllocError> {
+    let mut functions = Items::new(alloc);
+    add_function(alloc, &mut functions, shape.main_ty, 4, main)?;
+    add_function(
+        alloc,
+        &mut functions,
+        shape.second_ty,
+        shape.second_registers,
+        second,
+    )?;
+    add_function(alloc, &mut functions, 2, 4, &[Mid::Return { source: 2 }])?;
+    Ok(functions)
 }
 
 fn program(
@@ -124,16 +159,16 @@ fn program(
     main: &[Mid],
     second: &[Mid],
 ) -> Result<MidProgram, AllocError> {
-    let mut functions = Items::new(alloc);
-    functions.push(function(alloc, shape.main_ty, 4, main)?)?;
-    functions.push(function(alloc, shape.second_ty, shape.second_registers, second)?)?;
-    functions.push(function(alloc, 2, 4, &[Mid::Return { source: 2 }])?)?;
+    let types = types(alloc, shape.params)?;
+    let main_statics = statics(alloc, shape)?;
+    let binary_statics = statics(alloc, &SHAPE)?;
+    let functions = functions(alloc, shape, main, second)?;
     Ok(MidProgram {
-        types: types(alloc, shape.params)?,
+        types,
         main_functions: shape.main_functions,
         main: shape.main,
-        main_statics: statics(alloc, shape)?,
-        binary_statics: statics(alloc, &SHAPE)?,
+        main_statics,
+        binary_statics,
         functions,
     })
 }
