@@ -1,4 +1,5 @@
 mod instructions;
+mod pieces;
 
 use instructions::SINGLE;
 use mid_code::{
