@@ -1,7 +1,9 @@
 ghost use Rattle.mid_code.specs.declared.program.MidProgram.{MidProgram};
 ghost use Rattle.mid_code.specs.Valid.{IsValid};
 ghost use Rattle.mid_code.specs.WellFormed.{IsWellFormed};
-ghost use Rattle.mid_code.specs.Classes.{SharedProgram};
+ghost use Rattle.std.specs.Prelude.{◌≡◌, ◌≤◌};
+ghost use Rattle.mid_code.specs.Classes.{SharedProgram, instruction_sites};
+ghost use Rattle.mid_code.specs.Pairs.{HasSites};
 ghost use Rattle.mid_code.specs.Closed.{AreClosed, everything_shared};
 ghost use Rattle.mid_code.specs.Versions.{leading, trailing};
 ghost use Rattle.mid_code.specs.CodeLaws.{HasGroups, HasOneOfEach};
@@ -27,4 +29,10 @@ pub fn everything_can_be_shared()
 /// A law: no two instructions or wrappers have one site.
 pub fn sites_are_apart()
     ensures { (p : SharedProgram) → IsValid p.program → HasOneOfEach p }
+{}
+
+/// A law: 65,535 instructions with sites are too many where the main file has another function than
+/// `main`, since its wrapper has a site too.
+pub fn wrappers_have_sites()
+    ensures { (p : SharedProgram) → instruction_sites p ≡ 65535 → 2 ≤ p.program.main_functions → HasSites p → ⊥ }
 {}

@@ -27,6 +27,7 @@ pub use access::Access;
 pub use class::{Class, Shared, everything_shared};
 pub use code_laws::{
     everything_can_be_shared, sites_are_apart, valid_is_well_formed, versions_have_groups,
+    wrappers_have_sites,
 };
 pub use field::{Field, Wanted, fields};
 pub use laws::{
