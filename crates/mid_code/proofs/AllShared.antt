@@ -1,5 +1,5 @@
 -- The set of all is closed.
-use Rattle.std.proofs.Common.{◌≡◌, ℕ, zero, suc, ◌<◌, List, [], ◌∷◌, length, get_or, map, take, Option, Some, None, Bool, true, false, refl, sym, ap, ◌∙◌, subst, arith}
+use Rattle.std.proofs.Common.{◌≡◌, ℕ, zero, suc, ◌<◌, List, [], ◌∷◌, length, get_or, map, take, Option, Some, None, Bool, true, false, sym, ap, ◌∙◌, subst}
 use Rattle.std.specs.Prelude.{slice_get, unwrap_or, option_map}
 use Rattle.std.proofs.lemmas.List.{length-map}
 use Rattle.std.proofs.lemmas.Option.{slice_get-map, slice_get-get_or}
@@ -8,7 +8,6 @@ use Rattle.mid_code.specs.declared.mid.Mid.{Mid}
 use Rattle.mid_code.specs.declared.mid.Mid.TheVariants.{Const, Move, Arith, Conv, PtrAdd, PtrDiff, PtrCmp, GlobAddr, FunAddr, Load, Store, VLoad, VStore, Open, Close, Jump, JumpZ, JumpN, Turn, Call, CallPtr, Return, Put, Get, Exit}
 use Rattle.mid_code.specs.declared.program.RegisterKind.{RegisterKind}
 use Rattle.mid_code.specs.declared.program.RegisterKind.TheVariants.{Number, Address}
-use Rattle.mid_code.specs.declared.program.FunType.{FunType}
 use Rattle.mid_code.specs.declared.program.MidLine.{MidLine}
 use Rattle.mid_code.specs.declared.program.MidFunction.{MidFunction}
 use Rattle.mid_code.specs.declared.program.MidProgram.{MidProgram}
@@ -16,7 +15,7 @@ use Rattle.mid_code.specs.Registers.{registers_list}
 use Rattle.mid_code.specs.Rules.{same_kind}
 use Rattle.mid_code.specs.Ways.{begins_object}
 use Rattle.mid_code.specs.Valid.{IsValid}
-use Rattle.mid_code.specs.Classes.{is_marked, SharedProgram, protected_functions}
+use Rattle.mid_code.specs.Classes.{is_marked, protected_functions}
 use Rattle.mid_code.specs.Closed.{IsShared, AreShared, AreAlike, KeepsShared, IsClosed, AreClosed, all_of, everything_shared}
 use Rattle.mid_code.proofs.Keeping.{KeepsRules, keeps, same_kinds}
 

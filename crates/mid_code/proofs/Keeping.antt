@@ -15,7 +15,7 @@ use Rattle.mid_code.specs.Program.{function_at}
 use Rattle.mid_code.specs.Registers.{registers_list}
 use Rattle.mid_code.specs.Fields.{Field, Writes, Reads, Passes, Value, Operator, Comparison, AnyType, ArithmeticType, Negated, Scale, Cells, StaticObject, Callable, TypeNumber, Beginning, Target, Wanted, Any, Kind, Like, fields}
 use Rattle.mid_code.specs.Flow.{breaks_order}
-use Rattle.mid_code.specs.Rules.{same_kind, is_of_kind, is_of_other_kind, has_other_kind, is_outside, is_turn, is_bad_target, broken, register_rule, value_rule, field_rule, lesser, fields_rule, breaks_program, breaks_function, runs_out, misfits, misfits_params, misfits_at, early_rule, instruction_rule, line_rule, function_rule}
+use Rattle.mid_code.specs.Rules.{same_kind, is_of_kind, is_of_other_kind, has_other_kind, is_outside, is_turn, is_bad_target, broken, register_rule, value_rule, field_rule, lesser, fields_rule, breaks_program, breaks_function, runs_out, misfits, misfits_params, early_rule, instruction_rule, line_rule, function_rule}
 use Rattle.mid_code.specs.Valid.{IsValid}
 use Rattle.mid_code.specs.WellFormed.{HasKind, IsRegister, IsConstant, IsTarget, KeepsField, KeepsFields}
 

@@ -1,8 +1,8 @@
 -- A valid program is well formed.
-use Rattle.std.proofs.Common.{inl, inr, ◌≡◌, ◌≢◌, ℕ, zero, suc, ◌+◌, ◌-◌, ◌<◌, ◌≤◌, ◌^◌, List, [], ◌∷◌, length, Option, Some, None, Bool, true, false, refl, sym, ap, ◌∙◌, subst, arith}
+use Rattle.std.proofs.Common.{inl, inr, ◌≡◌, ℕ, zero, suc, ◌-◌, ◌<◌, ◌≤◌, ◌^◌, List, [], ◌∷◌, length, Option, Some, None, Bool, true, false, refl, sym, ap, ◌∙◌, subst, arith}
 use Rattle.std.specs.Prelude.{◌&&◌, ◌||◌, not, ◌==◌, nat_lt, nat_le, slice_get, slice_index, sum_by, All}
 use Rattle.std.specs.List.{list_any}
-use Rattle.std.proofs.lemmas.Bool.{and_parts, not-false, not-true, eqb-true, eqb-false, eq-eqb, ltb-false, leb-false, lt-ltb, or_cases}
+use Rattle.std.proofs.lemmas.Bool.{and_parts, not-false, eqb-true, eqb-false, eq-eqb, ltb-false, leb-false, lt-ltb, or_cases}
 use Rattle.std.proofs.lemmas.List.Elements.{All-cons, All-nil}
 use Rattle.std.proofs.lemmas.Option.{slice_get_within}
 use Rattle.srmt_base.specs.declared.statics.Static.{Static}
@@ -16,8 +16,8 @@ use Rattle.mid_code.specs.declared.mid.Mid.{Mid}
 use Rattle.mid_code.specs.declared.mid.Mid.TheVariants.{Call, CallPtr, Return}
 use Rattle.mid_code.specs.Program.{function_at}
 use Rattle.mid_code.specs.Registers.{registers_list}
-use Rattle.mid_code.specs.Ways.{Way, Next, Counts, Begins, Ends, Jumps, Branches, Returns, Stops, way_of, is_final}
-use Rattle.mid_code.specs.Flow.{found_at, goes_to, is_target, open_behind, is_not_newest, has_open, has_others, way_closes_wrongly, enters_wrongly}
+use Rattle.mid_code.specs.Ways.{Way, Next, Counts, Begins, Ends, Jumps, Branches, Returns, Stops, way_of}
+use Rattle.mid_code.specs.Flow.{found_at, goes_to, open_behind, is_not_newest, has_open, has_others, way_closes_wrongly, enters_wrongly}
 use Rattle.mid_code.specs.Rules.{is_bad_static, has_bad_statics, has_large_type, has_bad_parts, has_bad_type, is_number_alone, same_kind, is_of_kind, are_of_kinds, starts_with_kinds, misfits, misfits_type, misfits_params, misreturns, type_of}
 use Rattle.mid_code.specs.Valid.{IsValid}
 use Rattle.mid_code.specs.WellFormed.{HaveKinds, FitsType, FitsTypes, EndsNewest, Nests, IsInstruction, IsFunction, IsStaticObject, AreStaticObjects, IsWellFormed}

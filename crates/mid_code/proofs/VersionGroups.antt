@@ -1,5 +1,5 @@
 -- Each instruction of a version stands in the group of one middle instruction, and a group has a size from 1 to 20.
-use Rattle.std.proofs.Common.{lit≤, ◌≡◌, ℕ, zero, suc, ◌+◌, ◌-◌, ◌*◌, ◌<◌, ◌≤◌, List, [], ◌∷◌, ◌++◌, length, take, Some, None, refl, sym, ap, ◌∙◌, subst, arith, inl, inr, length-append}
+use Rattle.std.proofs.Common.{lit≤, ◌≡◌, ℕ, zero, suc, ◌+◌, ◌-◌, ◌*◌, ◌<◌, ◌≤◌, List, [], ◌∷◌, ◌++◌, length, take, Some, refl, sym, ap, ◌∙◌, arith, inl, inr, length-append}
 use Rattle.std.specs.Prelude.{slice_get, sum_by, option_and_then}
 use Rattle.std.proofs.lemmas.Bool.{cases_lt}
 use Rattle.std.proofs.lemmas.List.Sums.{sum_by-cons}
@@ -11,17 +11,15 @@ use Rattle.mid_code.specs.declared.mid.Mid.{Mid}
 use Rattle.mid_code.specs.declared.mid.Mid.TheVariants.{Call, CallPtr}
 use Rattle.mid_code.specs.declared.program.MidLine.{MidLine}
 use Rattle.mid_code.specs.declared.program.MidFunction.{MidFunction}
-use Rattle.mid_code.specs.declared.program.MidProgram.{MidProgram}
 use Rattle.mid_code.specs.declared.registers.Registers.{Registers}
 use Rattle.mid_code.specs.declared.version.VersionOp.{VersionOp}
 use Rattle.mid_code.specs.declared.version.VersionOp.TheVariants.{Ack, Take}
 use Rattle.mid_code.specs.declared.version.VersionLine.{VersionLine}
-use Rattle.mid_code.specs.declared.version.Version.{Version}
 use Rattle.mid_code.specs.declared.version.Operands.TheVariants.{Passed, Called}
 use Rattle.mid_code.specs.Program.{function_at}
 use Rattle.mid_code.specs.Registers.{registers_list}
 use Rattle.mid_code.specs.Classes.{Sharing, sharing_of, sharings, sharings_of, all_sharings, sites_of, site_count, class_of, classes_from, all_classes_from, classes_of, SharedProgram, protected_functions}
-use Rattle.mid_code.specs.Versions.{Table, leading, trailing, leading_exchange, leading_exchange_size, trailing_exchange, trailing_exchange_size, checks, check_count, checked, with_line, size_of, place_in, group_of, groups_from, version_of, versions_from, versions_of, version_at}
+use Rattle.mid_code.specs.Versions.{Table, leading, trailing, leading_exchange, leading_exchange_size, trailing_exchange, trailing_exchange_size, checks, check_count, with_line, size_of, place_in, group_of, groups_from, version_of, versions_from, versions_of, version_at}
 use Rattle.mid_code.specs.CodeLaws.{StandsIn, HasGroups}
 use Rattle.mid_code.proofs.RegistersLemmas.{length-registers_list}
 

@@ -1,9 +1,9 @@
 -- A well-formed program is valid.
-use Rattle.std.proofs.Common.{inl, inr, ◌≡◌, ◌≢◌, ℕ, zero, suc, ◌+◌, ◌-◌, ◌<◌, ◌≤◌, ◌^◌, List, [], ◌∷◌, length, get_or, Option, Some, None, Bool, true, false, refl, sym, ap, ◌∙◌, subst, arith}
+use Rattle.std.proofs.Common.{inl, inr, ◌≡◌, ℕ, zero, suc, ◌+◌, ◌-◌, ◌<◌, ◌≤◌, ◌^◌, List, [], ◌∷◌, length, Option, Some, None, Bool, true, false, refl, ap, ◌∙◌, arith}
 use Rattle.std.specs.Prelude.{◌&&◌, ◌||◌, not, ◌==◌, nat_lt, nat_le, slice_get, slice_index, sum_by, All}
 use Rattle.std.specs.List.{list_any}
 use Rattle.std.specs.Option.{option_or}
-use Rattle.std.proofs.lemmas.Bool.{cases_lt, cases_Bool, ltb-true, leb-true, eqb-true, eq-eqb, ne_eqb, le-ltb, lt-leb}
+use Rattle.std.proofs.lemmas.Bool.{cases_lt, ltb-true, leb-true, eqb-true, eq-eqb, ne_eqb, le-ltb, lt-leb}
 use Rattle.std.proofs.Math.Bool.{and-false}
 use Rattle.std.proofs.lemmas.List.Folds.{list_any_none}
 use Rattle.std.proofs.lemmas.Option.{slice_get_within}
@@ -19,7 +19,7 @@ use Rattle.mid_code.specs.declared.mid.Mid.TheVariants.{Call, CallPtr, Return}
 use Rattle.mid_code.specs.Program.{function_at}
 use Rattle.mid_code.specs.Registers.{registers_list}
 use Rattle.mid_code.specs.Ways.{Way, Next, Counts, Begins, Ends, Jumps, Branches, Returns, Stops, way_of, is_final}
-use Rattle.mid_code.specs.Flow.{found_at, goes_to, is_target, open_behind, is_not_newest, has_open, has_others, same_places, way_closes_wrongly, closes_wrongly, enters_wrongly, breaks_order, breaks_order_by}
+use Rattle.mid_code.specs.Flow.{found_at, goes_to, open_behind, is_not_newest, has_open, has_others, way_closes_wrongly, closes_wrongly, enters_wrongly, breaks_order, breaks_order_by}
 use Rattle.mid_code.specs.Fields.{Field, Writes, Reads, Passes, Value, Operator, Comparison, AnyType, ArithmeticType, Negated, Scale, Cells, StaticObject, Callable, TypeNumber, Beginning, Target, Wanted, Any, Kind, Like, fields}
 use Rattle.mid_code.specs.Rules.{is_bad_static, has_bad_statics, has_large_type, has_bad_parts, breaks_program, has_bad_type, breaks_function, is_number_alone, same_kind, is_of_kind, is_of_other_kind, has_other_kind, is_outside, is_turn, is_bad_target, are_of_kinds, starts_with_kinds, broken, register_rule, value_rule, field_rule, lesser, fields_rule, runs_out, misfits, misfits_type, misfits_params, misfits_at, misreturns, type_of, early_rule, instruction_rule, line_rule, function_rule, rule_broken}
 use Rattle.mid_code.specs.Valid.{IsValid}

@@ -1,5 +1,5 @@
 -- How the two threads share the instructions, and the sites of those that one thread performs alone.
-use Rattle.std.specs.Prelude.{ℕ, zero, suc, ◌+◌, ◌-◌, nat_lt, Bool, true, false, if◌then◌else◌, List, [], ◌∷◌, Option, Some, None, take, slice_get, sum_by, unwrap_or}
+use Rattle.std.specs.Prelude.{ℕ, ◌+◌, ◌-◌, nat_lt, Bool, true, false, if◌then◌else◌, List, [], ◌∷◌, take, slice_get, sum_by, unwrap_or}
 use Rattle.srmt_base.specs.declared.word.Site.{Site}
 use Rattle.mid_code.specs.declared.class.Class.{Class}
 use Rattle.mid_code.specs.declared.class.Class.TheVariants.{Repeatable, NonRepeatable, FailStop}

@@ -2,12 +2,11 @@
 --
 -- A set is closed where no pointer to a shared object is in a register outside it, and no pointer to an object outside
 -- it reaches memory, another function or the outside. The least closed set is the best, and the set of all is one.
-use Rattle.std.specs.Prelude.{◌≡◌, ℕ, zero, suc, ◌<◌, Bool, true, List, [], ◌∷◌, Option, Some, None, map, length, slice_get}
+use Rattle.std.specs.Prelude.{◌≡◌, ℕ, ◌<◌, true, List, [], ◌∷◌, Some, map, length, slice_get}
 use Rattle.mid_code.specs.declared.class.Shared.{Shared}
 use Rattle.mid_code.specs.declared.mid.Mid.{Mid}
 use Rattle.mid_code.specs.declared.mid.Mid.TheVariants.{Const, Move, Arith, Conv, PtrAdd, PtrDiff, PtrCmp, GlobAddr, FunAddr, Load, Store, VLoad, VStore, Open, Close, Jump, JumpZ, JumpN, Turn, Call, CallPtr, Return, Put, Get, Exit}
-use Rattle.mid_code.specs.declared.program.RegisterKind.{RegisterKind}
-use Rattle.mid_code.specs.declared.program.RegisterKind.TheVariants.{Number, Address}
+use Rattle.mid_code.specs.declared.program.RegisterKind.TheVariants.{Address}
 use Rattle.mid_code.specs.declared.program.FunType.{FunType}
 use Rattle.mid_code.specs.declared.program.MidLine.{MidLine}
 use Rattle.mid_code.specs.declared.program.MidFunction.{MidFunction}

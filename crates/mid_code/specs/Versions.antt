@@ -3,7 +3,7 @@
 -- Each instruction of middle code becomes a group of version instructions. What both threads perform is copied, with
 -- its places moved. Otherwise the leading thread performs it, and the trailing thread compares the operands, and takes
 -- the answer.
-use Rattle.std.specs.Prelude.{ℕ, zero, suc, ◌+◌, List, [], ◌∷◌, ◌++◌, length, map, Option, Some, None, slice_get, option_and_then}
+use Rattle.std.specs.Prelude.{ℕ, zero, suc, ◌+◌, List, [], ◌∷◌, ◌++◌, length, Option, Some, None, slice_get, option_and_then}
 use Rattle.srmt_base.specs.declared.word.Site.{Site}
 use Rattle.srmt_base.specs.declared.request_kind.RequestKind.{RequestKind}
 use Rattle.srmt_base.specs.declared.request_kind.RequestKind.TheVariants.{VLoad as AsksVLoad, VStore as AsksVStore, Put as AsksPut, Get as AsksGet, Exit as AsksExit, Call as AsksCall}
@@ -19,7 +19,6 @@ use Rattle.mid_code.specs.declared.version.VersionOp.{VersionOp}
 use Rattle.mid_code.specs.declared.version.VersionOp.TheVariants.{Copied, SharedLoad, SharedStore, SharedOpen, SharedClose, Ask, Await, Act, Enter, Check, CheckZero, CheckStored, Ack, Take, TakeDone, CheckOpen, CheckClose, End}
 use Rattle.mid_code.specs.declared.version.VersionLine.{VersionLine}
 use Rattle.mid_code.specs.declared.version.Version.{Version}
-use Rattle.mid_code.specs.declared.registers.Registers.{Registers}
 use Rattle.mid_code.specs.Registers.{registers_list}
 use Rattle.mid_code.specs.Classes.{SharedProgram, protected_functions, classes_of}
 

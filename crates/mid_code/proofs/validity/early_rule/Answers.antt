@@ -1,7 +1,7 @@
 use Rattle.std.proofs.Common.{◌∙◌, ap, List}
 use Rattle.std.specs.Option.{option_or}
 use Rattle.mid_code.specs.declared.program.MidLine.{MidLine}
-use Rattle.mid_code.specs.Rules.{broken, fields_rule, runs_out, misfits_at, early_rule}
+use Rattle.mid_code.specs.Rules.{broken, fields_rule, runs_out, early_rule}
 use Rattle.mid_code.proofs.validity.early_rule.Goals as goal
 
 pub returns : goal.returns
