@@ -8,7 +8,7 @@ use Rattle.mid_code.specs.declared.program.MidLine.{MidLine}
 use Rattle.mid_code.specs.declared.program.MidFunction.{MidFunction}
 use Rattle.mid_code.specs.declared.program.MidProgram.{MidProgram}
 use Rattle.mid_code.specs.declared.refusal.MidRefusal.{MidRefusal}
-use Rattle.mid_code.specs.Flow.{entered}
+use Rattle.mid_code.specs.Flow.{entered_by}
 use Rattle.mid_code.specs.Row.{number_of, Holds}
 use Rattle.mid_code.specs.Rules.{has_large_type, has_bad_parts, has_bad_statics, breaks_program, has_bad_type, breaks_function, line_rule, function_rule, rule_broken}
 use Rattle.mid_code.specs.Valid.{IsValid, IsFirstBroken, IsSoundFunction, IsFirstIn}
@@ -19,7 +19,7 @@ numbered true = refl
 numbered false = refl
 
 pub starts : (row : List ℕ) (code : List MidLine) → ((place : ℕ) → place < length code → slice_index row place ≡ (if place == 0 then 1 else 0)) → Holds row code 0
-unfolding entered
+unfolding entered_by
 starts row code h = record {
   behind = λ place before within. absurd (omega arith);
   ahead = λ place past within. h place within ∙ numbered (place == 0);

@@ -7,8 +7,9 @@ use Rattle.mid_code.specs.declared.mid.Mid.{Mid}
 use Rattle.mid_code.specs.declared.program.MidLine.{MidLine}
 use Rattle.mid_code.specs.declared.program.MidProgram.{MidProgram}
 use Rattle.mid_code.specs.declared.program.MidFunction.{MidFunction}
-use Rattle.mid_code.specs.Flow.{entered, found_at, same_places, has_others, closes_wrongly, enters_wrongly, breaks_order, breaks_order_by, goes_to, leaves}
-use Rattle.mid_code.specs.Rules.{is_final, runs_out}
+use Rattle.mid_code.specs.Flow.{entered_by, found_at, same_places, has_others, closes_wrongly, enters_wrongly, breaks_order, breaks_order_by, goes_to, open_behind}
+use Rattle.mid_code.specs.Rules.{runs_out}
+use Rattle.mid_code.specs.Ways.{is_final}
 use Rattle.mid_code.proofs.Keeping.{KeepsRules, neither}
 
 pub same_places-true : (xs ys : List ℕ) → same_places xs ys ≡ true → xs ≡ ys
@@ -26,7 +27,7 @@ found_same None left h = absurd (cc)
 found_same (Some found) left h = ap Some (same_places-true found left (not-false (same_places found left) h))
 
 -- a place of the code that is entered has what is left
-entered_here : (code : List MidLine) (target : ℕ) (left : List ℕ) → (nat_lt target (length code) && has_others (found_at code target) left) ≡ false → target < length code → found_at code target ≡ Some left
+pub entered_here : (code : List MidLine) (target : ℕ) (left : List ℕ) → (nat_lt target (length code) && has_others (found_at code target) left) ≡ false → target < length code → found_at code target ≡ Some left
 entered_here code target left h within =
     found_same (found_at code target) left (subst (λ b. (b && has_others (found_at code target) left) ≡ false) (lt-ltb target (length code) within) h)
 
@@ -36,20 +37,20 @@ unfolding breaks_order
 in_order code place mid found h at = neither (closes_wrongly mid found) (enters_wrongly code place mid found) (sym (ap (breaks_order_by code place mid) at) ∙ h)
 
 -- the first place that it enters, and the second
-pub first_entered : (code : List MidLine) (place : ℕ) (mid : Mid) (found : List ℕ) (target : ℕ) (rest : List ℕ) → goes_to place mid ≡ target ∷ rest → enters_wrongly code place mid found ≡ false → target < length code → found_at code target ≡ Some (leaves place mid found)
+pub first_entered : (code : List MidLine) (place : ℕ) (mid : Mid) (found : List ℕ) (target : ℕ) (rest : List ℕ) → goes_to place mid ≡ target ∷ rest → enters_wrongly code place mid found ≡ false → target < length code → found_at code target ≡ Some (open_behind place mid found)
 first_entered code place mid found target rest e h within =
-    let test : ℕ → Bool = λ t. nat_lt t (length code) && has_others (found_at code t) (leaves place mid found) in
-    entered_here code target (leaves place mid found) (neither (test target) (list_any test rest) (subst (λ ts. list_any test ts ≡ false) e h)).0 within
+    let test : ℕ → Bool = λ t. nat_lt t (length code) && has_others (found_at code t) (open_behind place mid found) in
+    entered_here code target (open_behind place mid found) (neither (test target) (list_any test rest) (subst (λ ts. list_any test ts ≡ false) e h)).0 within
 
-pub second_entered : (code : List MidLine) (place : ℕ) (mid : Mid) (found : List ℕ) (first target : ℕ) (rest : List ℕ) → goes_to place mid ≡ first ∷ target ∷ rest → enters_wrongly code place mid found ≡ false → target < length code → found_at code target ≡ Some (leaves place mid found)
+pub second_entered : (code : List MidLine) (place : ℕ) (mid : Mid) (found : List ℕ) (first target : ℕ) (rest : List ℕ) → goes_to place mid ≡ first ∷ target ∷ rest → enters_wrongly code place mid found ≡ false → target < length code → found_at code target ≡ Some (open_behind place mid found)
 second_entered code place mid found first target rest e h within =
-    let test : ℕ → Bool = λ t. nat_lt t (length code) && has_others (found_at code t) (leaves place mid found) in
+    let test : ℕ → Bool = λ t. nat_lt t (length code) && has_others (found_at code t) (open_behind place mid found) in
     let later = (neither (test first) (list_any test (target ∷ rest)) (subst (λ ts. list_any test ts ≡ false) e h)).1 in
-    entered_here code target (leaves place mid found) (neither (test target) (list_any test rest) later).0 within
+    entered_here code target (open_behind place mid found) (neither (test target) (list_any test rest) later).0 within
 
 -- at the start nothing is open
 pub none_at_start : (code : List MidLine) → found_at code 0 ≡ Some []
-unfolding entered
+unfolding entered_by
 none_at_start code = refl
 
 -- an instruction that is not final is followed by another

@@ -2,18 +2,17 @@
 use Rattle.std.proofs.Common.{◌≡◌, ◌≢◌, ℕ, zero, suc, ◌+◌, ◌-◌, ◌<◌, ◌≤◌, ◌^◌, List, [], ◌∷◌, length, Option, Some, None, Bool, true, false, inl, inr, refl, subst, arith}
 use Rattle.std.specs.Prelude.{◌&&◌, ◌||◌, not, ◌==◌, nat_lt, nat_le, slice_get, sum_by}
 use Rattle.std.specs.List.{list_any}
-use Rattle.std.proofs.lemmas.Bool.{and_parts, not-false, not-true, eqb-true, eqb-false, eq-eqb, ltb-false, leb-false, leb-true, ltb-true, or_cases}
+use Rattle.std.proofs.lemmas.Bool.{and_parts, not-false, not-true, eqb-true, eqb-false, eq-eqb, ltb-false, leb-true, ltb-true, or_cases}
 use Rattle.std.proofs.lemmas.List.Sums.{sum_by-cons}
 use Rattle.srmt_base.specs.Objects.{pointer_to}
 use Rattle.mid_code.specs.declared.program.RegisterKind.{RegisterKind}
 use Rattle.mid_code.specs.declared.program.RegisterKind.TheVariants.{Number}
-use Rattle.mid_code.specs.declared.program.Static.{Static}
+use Rattle.srmt_base.specs.declared.statics.Static.{Static}
 use Rattle.mid_code.specs.declared.program.FunType.{FunType}
 use Rattle.mid_code.specs.declared.program.MidFunction.{MidFunction}
 use Rattle.mid_code.specs.declared.program.MidProgram.{MidProgram}
 use Rattle.mid_code.specs.Program.{function_at}
-use Rattle.mid_code.specs.declared.operands.Operand.{Operand}
-use Rattle.mid_code.specs.Rules.{is_bad_static, has_bad_statics, has_large_type, has_bad_parts, has_bad_type, is_number_alone, is_static, is_callable, has_outside, same_kind, is_of_kind, are_of_kinds, misfits_type}
+use Rattle.mid_code.specs.Rules.{is_bad_static, has_bad_statics, has_large_type, has_bad_parts, has_bad_type, is_number_alone, is_static, is_callable, same_kind, is_of_kind, are_of_kinds, misfits_type}
 use Rattle.mid_code.specs.Valid.{IsValid}
 use Rattle.mid_code.proofs.Keeping.{neither, keeps_function, keeps_program}
 use Rattle.mid_code.proofs.Values.{one_within}
@@ -173,9 +172,3 @@ pub args_room : (program : MidProgram) (kinds : List RegisterKind) (target : ℕ
 args_room program kinds target args number f k h =
     let e = args_counted kinds target args k.type (subst (λ t. misfits_type kinds target args t ≡ false) k.typed h) in
     omega (arith, e, k.params)
-
--- a register that an instruction names first is there
-pub first_there : (kinds : List RegisterKind) (operand : Operand) (rest : List Operand) → has_outside kinds (operand ∷ rest) ≡ false → operand.register < length kinds
-first_there kinds operand rest h =
-    let both = neither (nat_le (length kinds) operand.register) (has_outside kinds rest) h in
-    leb-false (length kinds) operand.register both.0

@@ -6,12 +6,12 @@ use Rattle.std.specs.Bool.{OnFalse}
 use Rattle.std.proofs.lemmas.Option.{slice_get_cases}
 use Rattle.std.proofs.lemmas.Bool.{cases_eq, cases_lt, cases_Bool, not-false, eqb-true, ltb-true, eq-eqb, ne_eqb}
 use Rattle.mid_code.specs.declared.mid.Mid.{Mid}
-use Rattle.mid_code.specs.declared.mid.Mid.TheVariants.{Open, Close, Return}
+use Rattle.mid_code.specs.Ways.{Way, Next, Counts, Begins, Ends, Jumps, Branches, Returns, Stops, way_of}
 use Rattle.mid_code.specs.declared.program.MidLine.{MidLine}
-use Rattle.mid_code.specs.Flow.{goes_to, leaves, enters, entry, or_else, entered, found_at, same_places, has_others, closes_wrongly, enters_wrongly, breaks_order, breaks_order_by}
-use Rattle.mid_code.specs.Row.{number_of, Holds, left_number, number_closes_wrongly, row_after, has_other_number}
+use Rattle.mid_code.specs.Flow.{goes_to, way_opened, way_closes_wrongly, open_behind, is_target, entry, or_else, entered_by, found_at, same_places, has_others, closes_wrongly, enters_wrongly, breaks_order, breaks_order_by}
+use Rattle.mid_code.specs.Row.{number_of, Holds, number_behind, number_closes_wrongly, row_after, has_other_number}
 use Rattle.mid_code.proofs.Flowing.{same_places-true}
-use Rattle.mid_code.proofs.FlowLemmas.{IsStacked, stacked, stacked_left, entered_after, stays}
+use Rattle.mid_code.proofs.FlowLemmas.{IsStacked, stacked, stacked_behind, entered_after, stays}
 use Rattle.mid_code.proofs.RowLemmas.{kept_behind, kept_full, kept_other, filled}
 
 -- a place that is reached has a number that is not 0
@@ -36,7 +36,7 @@ and_true : (a b : Bool) → (a && b) ≡ true → (a ≡ true) × (b ≡ true)
 and_true true b h = (refl, h)
 and_true false b h = absurd (cc)
 
-same_refl : (a : List ℕ) → same_places a a ≡ true
+pub same_refl : (a : List ℕ) → same_places a a ≡ true
 same_refl [] = refl
 same_refl (x ∷ xs) = ap (λ b. b && same_places xs xs) (eq-eqb x x refl) ∙ same_refl xs
 
@@ -67,12 +67,17 @@ shifted a b =
       | inr other ↦ ne_eqb (a + 2) (b + 2) (λ e. other (omega arith)) ∙ sym (ne_eqb a b other)
     ]
 
-pub closes_number : (mid : Mid) (found : List ℕ) → number_closes_wrongly mid (number_of (Some found)) ≡ closes_wrongly mid found
-closes_number (Close begun) [] = ap not (ne_eqb 1 (begun + 2) (λ e. omega arith))
-closes_number (Close begun) (newest ∷ rest) = ap not (shifted newest begun)
-closes_number (Return source) [] = refl
-closes_number (Return source) (newest ∷ rest) = ap not (ne_eqb (newest + 2) 1 (λ e. omega arith))
-closes_number _ found = refl
+pub closes_number : (way : Way) (found : List ℕ) → number_closes_wrongly way (number_of (Some found)) ≡ way_closes_wrongly way found
+closes_number Next found = refl
+closes_number Counts found = refl
+closes_number Begins found = refl
+closes_number (Ends begun) [] = ap not (ne_eqb 1 (begun + 2) (λ e. omega arith))
+closes_number (Ends begun) (newest ∷ rest) = ap not (shifted newest begun)
+closes_number (Jumps target) found = refl
+closes_number (Branches target) found = refl
+closes_number Returns [] = refl
+closes_number Returns (newest ∷ rest) = ap not (ne_eqb (newest + 2) 1 (λ e. omega arith))
+closes_number Stops found = refl
 
 -- what is left, by numbers
 left_close : (row : List ℕ) (code : List MidLine) (p begun newest : ℕ) (r : List ℕ) → Holds row code p → p < length code → found_at code p ≡ Some (newest ∷ r) → newest ≡ begun → slice_index row begun ≡ number_of (Some r)
@@ -81,13 +86,18 @@ left_close row code p begun newest r holds within here same =
     let before : begun < p = omega (arith, one.0) in
     holds.behind begun before (omega arith) ∙ ap (λ n. number_of (found_at code n)) (sym same) ∙ ap number_of one.1
 
-left_numbers : (row : List ℕ) (code : List MidLine) (p : ℕ) (mid : Mid) (found : List ℕ) → Holds row code p → p < length code → found_at code p ≡ Some found → closes_wrongly mid found ≡ false → left_number row p mid (number_of (Some found)) ≡ number_of (Some (leaves p mid found))
-left_numbers row code p (Open target cells) found holds within here right = refl
-left_numbers row code p (Close begun) [] holds within here right = absurd (cc)
-left_numbers row code p (Close begun) (newest ∷ r) holds within here right =
+numbers_behind : (row : List ℕ) (code : List MidLine) (p : ℕ) (way : Way) (found : List ℕ) → Holds row code p → p < length code → found_at code p ≡ Some found → way_closes_wrongly way found ≡ false → number_behind row p way (number_of (Some found)) ≡ number_of (Some (way_opened p way found))
+numbers_behind row code p Next found holds within here right = refl
+numbers_behind row code p Counts found holds within here right = refl
+numbers_behind row code p Begins found holds within here right = refl
+numbers_behind row code p (Ends begun) [] holds within here right = absurd (cc)
+numbers_behind row code p (Ends begun) (newest ∷ r) holds within here right =
     let closes : (newest == begun) ≡ true = not-false (newest == begun) right in
     left_close row code p begun newest r holds within here (eqb-true newest begun closes) ∙ ap (λ b. number_of (Some (if b then r else newest ∷ r))) (sym closes)
-left_numbers row code p _ found holds within here right = refl
+numbers_behind row code p (Jumps target) found holds within here right = refl
+numbers_behind row code p (Branches target) found holds within here right = refl
+numbers_behind row code p Returns found holds within here right = refl
+numbers_behind row code p Stops found holds within here right = refl
 
 -- a place that is not reached changes nothing
 quiet : (first : Option (List ℕ)) (line : Option MidLine) (p t : ℕ) → or_else first (entry t p None line) ≡ first
@@ -102,12 +112,12 @@ behind_next row code p holds t before within =
     ]
 
 pub next_quiet : (row : List ℕ) (code : List MidLine) (p : ℕ) → Holds row code p → found_at code p ≡ None → Holds row code (suc p)
-unfolding entered
+unfolding entered_by
 next_quiet row code p holds none = record {
   behind = behind_next row code p holds;
   ahead = λ t past within.
       holds.ahead t (omega arith) within
-      ∙ ap number_of (sym (ap (λ state. or_else (entered code p t) (entry t p state (slice_get code p))) none ∙ quiet (entered code p t) (slice_get code p) p t));
+      ∙ ap number_of (sym (ap (λ state. or_else (entered_by code p t) (entry t p state (slice_get code p))) none ∙ quiet (entered_by code p t) (slice_get code p) p t));
 }
 
 -- the row after the entries of an instruction
@@ -115,28 +125,28 @@ module _ (row : List ℕ) (code : List MidLine) (p left : ℕ) (l : MidLine) (fo
   abbrev next_row : List ℕ
   next_row = row_after (length code) p left (goes_to p l.mid) row
 
-  chosen : (t : ℕ) (goes : Bool) → left ≡ number_of (Some (leaves p l.mid found)) → length code ≤ length row → p < t → t < length code → slice_index row t ≡ 0 → enters p l.mid t ≡ goes →
-      slice_index next_row t ≡ number_of (if goes then Some (leaves p l.mid found) else None)
+  chosen : (t : ℕ) (goes : Bool) → left ≡ number_of (Some (open_behind p l.mid found)) → length code ≤ length row → p < t → t < length code → slice_index row t ≡ 0 → is_target p l.mid t ≡ goes →
+      slice_index next_row t ≡ number_of (if goes then Some (open_behind p l.mid found) else None)
   chosen t true leave room past within empty goes =
-      filled (length code) p left (goes_to p l.mid) row t (λ e. some_number (leaves p l.mid found) (sym leave ∙ e)) past within room empty goes ∙ leave
+      filled (length code) p left (goes_to p l.mid) row t (λ e. some_number (open_behind p l.mid found) (sym leave ∙ e)) past within room empty goes ∙ leave
   chosen t false leave room past within empty goes = kept_other (length code) p left (goes_to p l.mid) row t goes ∙ empty
 
-  ahead_by : (t : ℕ) (first : Option (List ℕ)) → left ≡ number_of (Some (leaves p l.mid found)) → length code ≤ length row → p < t → t < length code → slice_index row t ≡ number_of first →
+  ahead_by : (t : ℕ) (first : Option (List ℕ)) → left ≡ number_of (Some (open_behind p l.mid found)) → length code ≤ length row → p < t → t < length code → slice_index row t ≡ number_of first →
       slice_index next_row t ≡ number_of (or_else first (entry t p (Some found) (Some l)))
-  ahead_by t None leave room past within known = chosen t (enters p l.mid t) leave room past within known refl
+  ahead_by t None leave room past within known = chosen t (is_target p l.mid t) leave room past within known refl
   ahead_by t (Some os) leave room past within known = kept_full (length code) p left (goes_to p l.mid) row t (λ e. some_number os (sym known ∙ e)) ∙ known
 
-  pub next_entered : Holds row code p → left ≡ number_of (Some (leaves p l.mid found)) → length code ≤ length row → found_at code p ≡ Some found → slice_get code p ≡ Some l → Holds next_row code (suc p)
-  unfolding entered
+  pub next_entered : Holds row code p → left ≡ number_of (Some (open_behind p l.mid found)) → length code ≤ length row → found_at code p ≡ Some found → slice_get code p ≡ Some l → Holds next_row code (suc p)
+  unfolding entered_by
   next_entered holds leave room here at = record {
     behind = λ t before within. kept_behind (length code) p left (goes_to p l.mid) row t (omega arith) ∙ behind_next row code p holds t before within;
     ahead = λ t past within.
-        ahead_by t (entered code p t) leave room (omega arith) within (holds.ahead t (omega arith) within)
-        ∙ ap number_of (sym (ap (λ state. or_else (entered code p t) (entry t p state (slice_get code p))) here ∙ ap (λ line. or_else (entered code p t) (entry t p (Some found) line)) at));
+        ahead_by t (entered_by code p t) leave room (omega arith) within (holds.ahead t (omega arith) within)
+        ∙ ap number_of (sym (ap (λ state. or_else (entered_by code p t) (entry t p state (slice_get code p))) here ∙ ap (λ line. or_else (entered_by code p t) (entry t p (Some found) line)) at));
   }
 
   -- a place that the instruction enters has its own number by now
-  settled : (t : ℕ) → Holds next_row code (suc p) → found_at code p ≡ Some found → slice_get code p ≡ Some l → enters p l.mid t ≡ true → t < length code → slice_index next_row t ≡ number_of (found_at code t)
+  settled : (t : ℕ) → Holds next_row code (suc p) → found_at code p ≡ Some found → slice_get code p ≡ Some l → is_target p l.mid t ≡ true → t < length code → slice_index next_row t ≡ number_of (found_at code t)
   settled t next here at goes within =
       elim (cases_lt t (suc p)) [
         | inl before ↦ next.behind t before within
@@ -145,13 +155,13 @@ module _ (row : List ℕ) (code : List MidLine) (p left : ℕ) (l : MidLine) (fo
             next.ahead t past within ∙ ap number_of (after.1 ∙ sym (stays code (suc p) t t after.0 past after.1))
       ]
 
-  other_at : (t : ℕ) (inside : Bool) → nat_lt t (length code) ≡ inside → Holds next_row code (suc p) → left ≡ number_of (Some (leaves p l.mid found)) → found_at code p ≡ Some found → slice_get code p ≡ Some l → enters p l.mid t ≡ true →
-      (inside && not (slice_index next_row t == left)) ≡ (inside && has_others (found_at code t) (leaves p l.mid found))
+  other_at : (t : ℕ) (inside : Bool) → nat_lt t (length code) ≡ inside → Holds next_row code (suc p) → left ≡ number_of (Some (open_behind p l.mid found)) → found_at code p ≡ Some found → slice_get code p ≡ Some l → is_target p l.mid t ≡ true →
+      (inside && not (slice_index next_row t == left)) ≡ (inside && has_others (found_at code t) (open_behind p l.mid found))
   other_at t false at_end next leave here at goes = refl
   other_at t true inside next leave here at goes =
       let known : slice_index next_row t ≡ number_of (found_at code t) = settled t next here at goes (ltb-true t (length code) inside) in
       ap (λ n. not (n == left)) known ∙ ap (λ n. not (number_of (found_at code t) == n)) leave
-      ∙ sym (others_number code t (suc p) (found_at code t) (leaves p l.mid found) (λ os h. stacked code t t os h) (stacked_left code p l.mid found here))
+      ∙ sym (others_number code t (suc p) (found_at code t) (open_behind p l.mid found) (λ os h. stacked code t t os h) (stacked_behind code p l.mid found here))
 
 -- two tests of each element are the same
 any_same : (f g : ℕ → Bool) (ts : List ℕ) → ((t : ℕ) → list_any (λ n. n == t) ts ≡ true → f t ≡ g t) → list_any f ts ≡ list_any g ts
@@ -165,11 +175,11 @@ any_same f g (x ∷ xs) h =
     or_last true b e = refl
     or_last false b e = e
 
-pub enters_number : (row : List ℕ) (code : List MidLine) (p left : ℕ) (l : MidLine) (found : List ℕ) → Holds (row_after (length code) p left (goes_to p l.mid) row) code (suc p) → left ≡ number_of (Some (leaves p l.mid found)) → found_at code p ≡ Some found → slice_get code p ≡ Some l →
+pub enters_number : (row : List ℕ) (code : List MidLine) (p left : ℕ) (l : MidLine) (found : List ℕ) → Holds (row_after (length code) p left (goes_to p l.mid) row) code (suc p) → left ≡ number_of (Some (open_behind p l.mid found)) → found_at code p ≡ Some found → slice_get code p ≡ Some l →
     list_any (λ t. has_other_number (length code) left (row_after (length code) p left (goes_to p l.mid) row) t) (goes_to p l.mid) ≡ enters_wrongly code p l.mid found
 enters_number row code p left l found next leave here at =
     any_same (λ t. has_other_number (length code) left (row_after (length code) p left (goes_to p l.mid) row) t)
-    (λ t. nat_lt t (length code) && has_others (found_at code t) (leaves p l.mid found)) (goes_to p l.mid)
+    (λ t. nat_lt t (length code) && has_others (found_at code t) (open_behind p l.mid found)) (goes_to p l.mid)
     (λ t among. other_at row code p left l found t (nat_lt t (length code)) refl next leave here at among)
 
 -- what the number of a place tells
@@ -195,11 +205,11 @@ pub answer_quiet : (code : List MidLine) (p : ℕ) (mid : Mid) → found_at code
 unfolding breaks_order
 answer_quiet code p mid none = sym (ap (breaks_order_by code p mid) none)
 
-pub answer_closes : (row : List ℕ) (code : List MidLine) (p : ℕ) (mid : Mid) → Holds row code p → p < length code → slice_index row p ≢ 0 → number_closes_wrongly mid (slice_index row p) ≡ true → true ≡ breaks_order code p mid
+pub answer_closes : (row : List ℕ) (code : List MidLine) (p : ℕ) (mid : Mid) → Holds row code p → p < length code → slice_index row p ≢ 0 → number_closes_wrongly (way_of mid) (slice_index row p) ≡ true → true ≡ breaks_order code p mid
 unfolding breaks_order
 answer_closes row code p mid holds within some wrong =
     let there = reached row code p holds within some in
-    let closes : closes_wrongly mid there.0 ≡ true = sym (closes_number mid there.0) ∙ ap (number_closes_wrongly mid) (sym (known_here row code p there.0 holds within there.1)) ∙ wrong in
+    let closes : closes_wrongly mid there.0 ≡ true = sym (closes_number (way_of mid) there.0) ∙ ap (number_closes_wrongly (way_of mid)) (sym (known_here row code p there.0 holds within there.1)) ∙ wrong in
     sym (ap (breaks_order_by code p mid) there.1 ∙ ap (λ b. b || enters_wrongly code p mid there.0) closes)
 
 -- and where the row has come then
@@ -207,24 +217,24 @@ module _ (row : List ℕ) (code : List MidLine) (p left : ℕ) (l : MidLine) whe
   abbrev passed_row : List ℕ
   passed_row = row_after (length code) p left (goes_to p l.mid) row
 
-  leave_right : Holds row code p → p < length code → (found : List ℕ) → found_at code p ≡ Some found → number_closes_wrongly l.mid (slice_index row p) ≡ false → left ≡ left_number row p l.mid (slice_index row p) → left ≡ number_of (Some (leaves p l.mid found))
+  leave_right : Holds row code p → p < length code → (found : List ℕ) → found_at code p ≡ Some found → number_closes_wrongly (way_of l.mid) (slice_index row p) ≡ false → left ≡ number_behind row p (way_of l.mid) (slice_index row p) → left ≡ number_of (Some (open_behind p l.mid found))
   leave_right holds within found here right is_left =
       let known = known_here row code p found holds within here in
-      let closes : closes_wrongly l.mid found ≡ false = sym (closes_number l.mid found) ∙ ap (number_closes_wrongly l.mid) (sym known) ∙ right in
-      is_left ∙ ap (left_number row p l.mid) known ∙ left_numbers row code p l.mid found holds within here closes
+      let closes : closes_wrongly l.mid found ≡ false = sym (closes_number (way_of l.mid) found) ∙ ap (number_closes_wrongly (way_of l.mid)) (sym known) ∙ right in
+      is_left ∙ ap (number_behind row p (way_of l.mid)) known ∙ numbers_behind row code p (way_of l.mid) found holds within here closes
 
-  pub next_passed : Holds row code p → p < length code → length code ≤ length row → slice_get code p ≡ Some l → slice_index row p ≢ 0 → number_closes_wrongly l.mid (slice_index row p) ≡ false → left ≡ left_number row p l.mid (slice_index row p) → Holds passed_row code (suc p)
+  pub next_passed : Holds row code p → p < length code → length code ≤ length row → slice_get code p ≡ Some l → slice_index row p ≢ 0 → number_closes_wrongly (way_of l.mid) (slice_index row p) ≡ false → left ≡ number_behind row p (way_of l.mid) (slice_index row p) → Holds passed_row code (suc p)
   next_passed holds within room at some right is_left =
       let there = reached row code p holds within some in
       next_entered row code p left l there.0 holds (leave_right holds within there.0 there.1 right is_left) room there.1 at
 
-  pub answer_enters : Holds row code p → p < length code → length code ≤ length row → slice_get code p ≡ Some l → slice_index row p ≢ 0 → number_closes_wrongly l.mid (slice_index row p) ≡ false → left ≡ left_number row p l.mid (slice_index row p) →
+  pub answer_enters : Holds row code p → p < length code → length code ≤ length row → slice_get code p ≡ Some l → slice_index row p ≢ 0 → number_closes_wrongly (way_of l.mid) (slice_index row p) ≡ false → left ≡ number_behind row p (way_of l.mid) (slice_index row p) →
       list_any (λ t. has_other_number (length code) left passed_row t) (goes_to p l.mid) ≡ breaks_order code p l.mid
   unfolding breaks_order
   answer_enters holds within room at some right is_left =
       let there = reached row code p holds within some in
       let known = known_here row code p there.0 holds within there.1 in
-      let closes : closes_wrongly l.mid there.0 ≡ false = sym (closes_number l.mid there.0) ∙ ap (number_closes_wrongly l.mid) (sym known) ∙ right in
+      let closes : closes_wrongly l.mid there.0 ≡ false = sym (closes_number (way_of l.mid) there.0) ∙ ap (number_closes_wrongly (way_of l.mid)) (sym known) ∙ right in
       enters_number row code p left l there.0 (next_passed holds within room at some right is_left) (leave_right holds within there.0 there.1 right is_left) there.1 at
       ∙ sym (ap (breaks_order_by code p l.mid) there.1 ∙ ap (λ b. b || enters_wrongly code p l.mid there.0) closes)
 

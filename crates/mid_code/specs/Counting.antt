@@ -4,15 +4,17 @@ use Rattle.srmt_base.specs.declared.limits.Limits.{Limits}
 use Rattle.srmt_base.specs.declared.trap.SourceEnd.TheVariants.{Trap as TrapEnd}
 use Rattle.srmt_base.specs.declared.trap.Trap.TheVariants.{Turns, Depth, Store}
 use Rattle.srmt_base.specs.Objects.{live_cells}
-use Rattle.srmt_base.specs.Memory.{Part, Protected, last_number, next_number, objects_of}
+use Rattle.srmt_base.specs.declared.part.Part.{Part}
+use Rattle.srmt_base.specs.declared.part.Part.TheVariants.{Protected}
+use Rattle.srmt_base.specs.Memory.{last_number, next_number, objects_of}
 use Rattle.mid_code.specs.declared.program.MidFunction.{MidFunction}
 use Rattle.mid_code.specs.declared.program.MidLine.{MidLine}
 use Rattle.mid_code.specs.declared.program.MidProgram.{MidProgram}
 use Rattle.mid_code.specs.declared.mid.Mid.{Mid}
-use Rattle.mid_code.specs.declared.mid.Mid.TheVariants.{Open, Turn, Call, CallPtr}
+use Rattle.mid_code.specs.declared.mid.Mid.TheVariants.{Const, Move, Arith, Conv, PtrAdd, PtrDiff, PtrCmp, GlobAddr, FunAddr, Load, Store, VLoad, VStore, Open, Close, Jump, JumpZ, JumpN, Turn, Call, CallPtr, Return, Put, Get, Exit}
 use Rattle.mid_code.specs.Program.{function_at, line_at}
-use Rattle.mid_code.specs.Machine.{Machine, register, activations, one_if, live_of, part_of_function, is_callee}
-use Rattle.mid_code.specs.Meaning.{State, Step, On, Ends, Stuck, own_part, step}
+use Rattle.mid_code.specs.Machine.{Activation, Machine, register, activations, one_if, live_of, part_of_function, is_callee}
+use Rattle.mid_code.specs.Meaning.{State, Ends, if_on, own_part, step}
 
 pub data Counting : Type 0 where
   Uncounted : Counting
@@ -26,20 +28,41 @@ abbrev pub entry_of : MidProgram → ℕ → Option MidFunction → Counting
 entry_of program number None = Uncounted
 entry_of program number (Some code) = OneActivation (part_of_function program number) code.line
 
-abbrev pub counting_of : MidProgram → Mid → ℕ → Machine → Counting
-counting_of program Turn line m = OneTurn (part_of_function program m.top.function) line
-counting_of program (Call target function args) line m = entry_of program function (function_at program function)
-counting_of program (CallPtr target callee ty args) line m =
-    if is_callee program ty (register m callee) then entry_of program (register m callee) (function_at program (register m callee)) else Uncounted
-counting_of program _ line m = Uncounted
+abbrev pub counting_of : MidProgram → Mid → ℕ → Activation → Counting
+counting_of program (Const target value) line a = Uncounted
+counting_of program (Move target source) line a = Uncounted
+counting_of program (Arith op ty target left right) line a = Uncounted
+counting_of program (Conv from to target source) line a = Uncounted
+counting_of program (PtrAdd target pointer index ty negated scale) line a = Uncounted
+counting_of program (PtrDiff target left right scale) line a = Uncounted
+counting_of program (PtrCmp op target left right) line a = Uncounted
+counting_of program (GlobAddr target object) line a = Uncounted
+counting_of program (FunAddr target function) line a = Uncounted
+counting_of program (Load target pointer) line a = Uncounted
+counting_of program (Store pointer source) line a = Uncounted
+counting_of program (VLoad target pointer) line a = Uncounted
+counting_of program (VStore pointer source) line a = Uncounted
+counting_of program (Open target cells) line a = Uncounted
+counting_of program (Close place) line a = Uncounted
+counting_of program (Jump place) line a = Uncounted
+counting_of program (JumpZ source place) line a = Uncounted
+counting_of program (JumpN source place) line a = Uncounted
+counting_of program Turn line a = OneTurn (part_of_function program a.function) line
+counting_of program (Call target function args) line a = entry_of program function (function_at program function)
+counting_of program (CallPtr target callee ty args) line a =
+    if is_callee program ty (register a callee) then entry_of program (register a callee) (function_at program (register a callee)) else Uncounted
+counting_of program (Return source) line a = Uncounted
+counting_of program (Put source) line a = Uncounted
+counting_of program (Get target) line a = Uncounted
+counting_of program (Exit source) line a = Uncounted
 
-abbrev pub counting_at : MidProgram → Option MidLine → Machine → Counting
-counting_at program None m = Uncounted
-counting_at program (Some l) m = counting_of program l.mid l.line m
+abbrev pub counting_at : MidProgram → Option MidLine → Activation → Counting
+counting_at program None a = Uncounted
+counting_at program (Some l) a = counting_of program l.mid l.line a
 
 -- what the next instruction counts
 abbrev pub next_counting : MidProgram → Machine → Counting
-next_counting program m = counting_at program (line_at program m.top.function m.top.place) m
+next_counting program m = counting_at program (line_at program m.top.function m.top.place) m.top
 
 -- how many turns of a part that is
 abbrev pub turns_of : Part → Counting → ℕ
@@ -47,15 +70,10 @@ turns_of part Uncounted = 0
 turns_of part (OneTurn own line) = one_if part own
 turns_of part (OneActivation own line) = one_if part own
 
-abbrev pub after_step : Step → (State → ℕ) → ℕ
-after_step (On next events) rest = rest next
-after_step (Ends end events) rest = 0
-after_step Stuck rest = 0
-
 -- how many turns of a part so many steps count
 abbrev pub turns_in : MidProgram → Part → ℕ → State → ℕ
 turns_in program part zero s = 0
-turns_in program part (suc more) s = turns_of part (next_counting program s.machine) + after_step (step program s) (turns_in program part more)
+turns_in program part (suc more) s = turns_of part (next_counting program s.machine) + if_on (step program s) 0 (turns_in program part more)
 
 -- and with the turn of `main`
 abbrev pub turns_so_far : MidProgram → Part → ℕ → State → ℕ

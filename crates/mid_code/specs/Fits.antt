@@ -1,12 +1,16 @@
 -- A run that stands within its program: what every state of a run of a valid program is like.
 use Rattle.std.specs.Prelude.{ℕ, ◌≡◌, ◌+◌, ◌^◌, ◌<◌, ◌≤◌, List, [], ◌∷◌, length, map, Some, All}
+use Rattle.srmt_base.specs.declared.budgets.Budgets.{Budgets}
+use Rattle.srmt_base.specs.declared.part.Part.{Part}
+use Rattle.srmt_base.specs.declared.part.Part.TheVariants.{Protected, Binary}
+use Rattle.srmt_base.specs.Budgets.{budget_of}
 use Rattle.srmt_base.specs.Objects.{Object, Objects, live_cells}
-use Rattle.srmt_base.specs.Memory.{Memory, Part, Protected, Binary, first_number, last_number}
+use Rattle.srmt_base.specs.Memory.{Memory, first_number, last_number}
 use Rattle.mid_code.specs.declared.program.MidProgram.{MidProgram}
 use Rattle.mid_code.specs.declared.program.MidFunction.{MidFunction}
 use Rattle.mid_code.specs.Program.{function_at}
 use Rattle.mid_code.specs.Flow.{found_at}
-use Rattle.mid_code.specs.Machine.{Activation, Machine, activations, live_of, budget_of}
+use Rattle.mid_code.specs.Machine.{Activation, Machine, activations, live_of}
 use Rattle.mid_code.specs.Meaning.{State}
 
 -- a number of 44 bits, as registers and cells hold them
@@ -30,9 +34,14 @@ AreBelow program above [] = above.function ≡ program.main
 AreBelow program above (caller ∷ rest) = (above.into < length caller.registers) × IsWithin program caller × AreBelow program caller rest
 
 -- what is left to a part, and its live activations with it, are no more than fitting limits allow
-pub record IsLeft (program : MidProgram) (part : Part) (m : Machine) : Type 0 where
-  pub turns : (budget_of part m).turns ≤ 10 ^ 12
-  pub depth : live_of program part (activations m) + (budget_of part m).depth ≤ 1000
+pub record IsLeft (program : MidProgram) (part : Part) (live : List Activation) (budgets : Budgets) : Type 0 where
+  pub turns : (budget_of part budgets).turns ≤ 10 ^ 12
+  pub depth : live_of program part live + (budget_of part budgets).depth ≤ 1000
+
+-- the same of both parts
+pub record AreLeft (program : MidProgram) (live : List Activation) (budgets : Budgets) : Type 0 where
+  pub protected : IsLeft program Protected live budgets
+  pub binary : IsLeft program Binary live budgets
 
 -- the cells of an object hold values
 abbrev pub HoldsValues : Object → Type 0
@@ -56,8 +65,7 @@ pub record IsPart (part : Part) (objects : Objects) : Type 0 where
 pub record IsMachine (program : MidProgram) (m : Machine) : Type 0 where
   pub top : IsWithin program m.top
   pub below : AreBelow program m.top m.below
-  pub protected_left : IsLeft program Protected m
-  pub binary_left : IsLeft program Binary m
+  pub left : AreLeft program (activations m) m.budgets
 
 pub record IsMemory (memory : Memory) : Type 0 where
   pub protected : IsPart Protected memory.protected

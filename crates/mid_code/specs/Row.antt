@@ -2,10 +2,9 @@
 --
 -- The newest open object of a place is enough: those below it are the ones that were found where it began.
 use Rattle.std.specs.Prelude.{◌≡◌, ℕ, ◌+◌, ◌<◌, ◌≤◌, ◌==◌, nat_lt, Bool, false, not, ◌&&◌, if◌then◌else◌, List, [], ◌∷◌, length, Option, Some, None, slice_index, slice_set}
-use Rattle.mid_code.specs.declared.mid.Mid.{Mid}
-use Rattle.mid_code.specs.declared.mid.Mid.TheVariants.{Open, Close, Return}
 use Rattle.mid_code.specs.declared.program.MidLine.{MidLine}
-use Rattle.mid_code.specs.Flow.{entered, found_at}
+use Rattle.mid_code.specs.Ways.{Way, Next, Counts, Begins, Ends, Jumps, Branches, Returns, Stops}
+use Rattle.mid_code.specs.Flow.{entered_by, found_at}
 
 -- 0 of a place that is not reached, 1 where none is open, and else the place of the newest, from 2
 abbrev pub number_of : Option (List ℕ) → ℕ
@@ -17,18 +16,28 @@ number_of (Some (newest ∷ rest)) = newest + 2
 -- known as far as they were entered
 pub record Holds (row : List ℕ) (code : List MidLine) (count : ℕ) : Type 0 where
   pub behind : (place : ℕ) → place < count → place < length code → slice_index row place ≡ number_of (found_at code place)
-  pub ahead : (place : ℕ) → count ≤ place → place < length code → slice_index row place ≡ number_of (entered code count place)
+  pub ahead : (place : ℕ) → count ≤ place → place < length code → slice_index row place ≡ number_of (entered_by code count place)
 
--- the numbers that an instruction leaves, and whether it closes wrongly, by the number that it finds
-abbrev pub left_number : List ℕ → ℕ → Mid → ℕ → ℕ
-left_number row place (Open target cells) here = place + 2
-left_number row place (Close begun) here = slice_index row begun
-left_number row place _ here = here
+-- the number behind an instruction, and whether it closes wrongly, by the number that it finds
+abbrev pub number_behind : List ℕ → ℕ → Way → ℕ → ℕ
+number_behind row place Next here = here
+number_behind row place Counts here = here
+number_behind row place Begins here = place + 2
+number_behind row place (Ends begun) here = slice_index row begun
+number_behind row place (Jumps target) here = here
+number_behind row place (Branches target) here = here
+number_behind row place Returns here = here
+number_behind row place Stops here = here
 
-abbrev pub number_closes_wrongly : Mid → ℕ → Bool
-number_closes_wrongly (Close begun) here = not (here == begun + 2)
-number_closes_wrongly (Return source) here = not (here == 1)
-number_closes_wrongly _ here = false
+abbrev pub number_closes_wrongly : Way → ℕ → Bool
+number_closes_wrongly Next here = false
+number_closes_wrongly Counts here = false
+number_closes_wrongly Begins here = false
+number_closes_wrongly (Ends begun) here = not (here == begun + 2)
+number_closes_wrongly (Jumps target) here = false
+number_closes_wrongly (Branches target) here = false
+number_closes_wrongly Returns here = not (here == 1)
+number_closes_wrongly Stops here = false
 
 -- the row after an entry of a target, and after entries of several
 abbrev pub row_entered : ℕ → ℕ → ℕ → ℕ → List ℕ → List ℕ

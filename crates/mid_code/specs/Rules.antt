@@ -1,27 +1,30 @@
 -- The rules that a valid program keeps, by their numbers, and the places that break them.
 --
+-- Rules 1 to 5 concern one field of an instruction each, and 6 to 8 the whole of it.
+--
 -- 1: a number is within its limit. 3: what an operand names is there. 4: a register has the kind that its operand
 -- wants. 5: a place is within the code, and a jump leads forward, or to a `Turn`. 6: the last instruction is not
 -- followed by another. 7: arguments and results have the kinds of the function's type. 8: objects open and close in
 -- order. Rule 2, that each code is one of an instruction, can be broken in a file alone.
 use Rattle.std.specs.Prelude.{ℕ, zero, suc, ◌+◌, ◌-◌, ◌^◌, ◌==◌, nat_lt, nat_le, Bool, true, false, not, ◌&&◌, ◌||◌, if◌then◌else◌, List, [], ◌∷◌, length, Option, Some, None, slice_get, slice_index, sum_by}
 use Rattle.std.specs.List.{list_any}
+use Rattle.std.specs.Option.{option_or}
 use Rattle.srmt_base.specs.declared.ty.Ty.{Ty}
-use Rattle.srmt_base.specs.declared.ty.Ty.TheVariants.{Int, UInt}
+use Rattle.srmt_base.specs.declared.ty.Ty.TheVariants.{Bool as BoolType, Char, SChar, UChar, Short, UShort, Int, UInt}
 use Rattle.srmt_base.specs.Arith.{is_comparison}
 use Rattle.mid_code.specs.declared.program.RegisterKind.{RegisterKind}
 use Rattle.mid_code.specs.declared.program.RegisterKind.TheVariants.{Number, Address}
 use Rattle.mid_code.specs.declared.program.FunType.{FunType}
-use Rattle.mid_code.specs.declared.program.Static.{Static}
+use Rattle.srmt_base.specs.declared.statics.Static.{Static}
 use Rattle.mid_code.specs.declared.program.MidLine.{MidLine}
 use Rattle.mid_code.specs.declared.program.MidFunction.{MidFunction}
 use Rattle.mid_code.specs.declared.program.MidProgram.{MidProgram}
 use Rattle.mid_code.specs.declared.mid.Mid.{Mid}
-use Rattle.mid_code.specs.declared.mid.Mid.TheVariants.{Const, Move, Arith, PtrAdd, PtrDiff, PtrCmp, GlobAddr, FunAddr, Open, Close, Jump, JumpZ, JumpN, Turn, Call, CallPtr, Return, Exit}
+use Rattle.mid_code.specs.declared.mid.Mid.TheVariants.{Const, Move, Arith, Conv, PtrAdd, PtrDiff, PtrCmp, GlobAddr, FunAddr, Load, Store, VLoad, VStore, Open, Close, Jump, JumpZ, JumpN, Turn, Call, CallPtr, Return, Put, Get, Exit}
 use Rattle.mid_code.specs.Registers.{registers_list}
 use Rattle.mid_code.specs.Program.{function_at}
-use Rattle.mid_code.specs.declared.operands.Operand.{Operand}
-use Rattle.mid_code.specs.Operands.{operands}
+use Rattle.mid_code.specs.Fields.{Field, Writes, Reads, Passes, Value, Operator, Comparison, AnyType, ArithmeticType, Negated, Scale, Cells, StaticObject, Callable, TypeNumber, Beginning, Target, Wanted, Any, Kind, Like, fields}
+use Rattle.mid_code.specs.Ways.{counts_turn, is_final}
 use Rattle.mid_code.specs.Flow.{breaks_order}
 
 -- two kinds are the same
@@ -79,19 +82,6 @@ breaks_function program number function =
     length function.kinds == 0 || nat_lt 1024 (length function.kinds) || length function.code == 0 || nat_lt 65535 (length function.code)
     || has_bad_type (number == program.main) function (slice_get program.types function.ty)
 
--- Rule 1, of an instruction: a value is below 2^44, and an object has a cell
-abbrev pub is_beyond : Mid → Bool
-is_beyond (Const target value) = nat_le (2 ^ 44) value
-is_beyond (Open target cells) = cells == 0
-is_beyond _ = false
-
--- Rule 3: each register is one of the function's, a scale is not 0, arithmetic is made at `int` or `unsigned int`, a
--- comparison of pointers compares, and an object, a function or a type is there
-abbrev pub is_wide : Ty → Bool
-is_wide Int = true
-is_wide UInt = true
-is_wide _ = false
-
 -- an object of static storage duration: those of the main file are numbered from 1, those of the binary file from 134,217,728
 abbrev pub is_static : MidProgram → ℕ → Bool
 is_static program object =
@@ -102,38 +92,31 @@ is_static program object =
 abbrev pub is_callable : MidProgram → ℕ → Bool
 is_callable program function = nat_le 1 function && nat_le function (length program.functions) && not (function == program.main)
 
-abbrev pub names_nothing : MidProgram → Mid → Bool
-names_nothing program (Arith op ty target left right) = not (is_wide ty)
-names_nothing program (PtrAdd target pointer index ty negated scale) = scale == 0
-names_nothing program (PtrDiff target left right scale) = scale == 0
-names_nothing program (PtrCmp op target left right) = not (is_comparison op)
-names_nothing program (GlobAddr target object) = not (is_static program object)
-names_nothing program (FunAddr target function) = not (is_callable program function)
-names_nothing program (Call target function args) = not (is_callable program function)
-names_nothing program (CallPtr target callee ty args) = nat_le (length program.types) ty
-names_nothing program _ = false
+-- arithmetic is made at `int` or `unsigned int`
+abbrev pub has_arithmetic : Ty → Bool
+has_arithmetic BoolType = false
+has_arithmetic Char = false
+has_arithmetic SChar = false
+has_arithmetic UChar = false
+has_arithmetic Short = false
+has_arithmetic UShort = false
+has_arithmetic Int = true
+has_arithmetic UInt = true
 
-abbrev pub has_outside : List RegisterKind → List Operand → Bool
-has_outside kinds os = list_any (λ operand. nat_le (length kinds) operand.register) os
-
--- Rule 4: each register has its operand's kind, a copy is of one kind, and no address but the null pointer is a constant
+-- a register has another kind than another
 abbrev pub is_of_other_kind : Option RegisterKind → Option RegisterKind → Bool
 is_of_other_kind found None = false
 is_of_other_kind found (Some kind) = not (is_of_kind found kind)
 
-abbrev pub has_other_kind : List RegisterKind → List Operand → Bool
-has_other_kind kinds os = list_any (λ operand. is_of_other_kind (slice_get kinds operand.register) operand.kind) os
+abbrev pub has_other_kind : List RegisterKind → ℕ → Wanted → Bool
+has_other_kind kinds register Any = false
+has_other_kind kinds register (Kind kind) = is_of_other_kind (slice_get kinds register) (Some kind)
+has_other_kind kinds register (Like other) = is_of_other_kind (slice_get kinds register) (slice_get kinds other)
 
-abbrev pub mixes_kinds : List RegisterKind → Mid → Bool
-mixes_kinds kinds (Const target value) = is_of_kind (slice_get kinds target) Address && nat_lt 0 value
-mixes_kinds kinds (Move target source) = is_of_other_kind (slice_get kinds target) (slice_get kinds source)
-mixes_kinds kinds _ = false
+abbrev pub is_outside : List RegisterKind → ℕ → Bool
+is_outside kinds register = nat_le (length kinds) register
 
--- Rule 5
-abbrev pub counts_turn : Mid → Bool
-counts_turn Turn = true
-counts_turn _ = false
-
+-- a jump leads forward, or back to a `Turn`
 abbrev pub is_turn : Option MidLine → Bool
 is_turn None = false
 is_turn (Some l) = counts_turn l.mid
@@ -141,20 +124,49 @@ is_turn (Some l) = counts_turn l.mid
 abbrev pub is_bad_target : List MidLine → ℕ → ℕ → Bool
 is_bad_target code place target = nat_le (length code) target || (nat_le target place && not (is_turn (slice_get code target)))
 
-abbrev pub jumps_wrongly : List MidLine → ℕ → Mid → Bool
-jumps_wrongly code place (Close begun) = nat_le (length code) begun
-jumps_wrongly code place (Jump target) = is_bad_target code place target
-jumps_wrongly code place (JumpZ source target) = is_bad_target code place target
-jumps_wrongly code place (JumpN source target) = is_bad_target code place target
-jumps_wrongly code place _ = false
+-- a rule that is broken
+abbrev pub broken : ℕ → Bool → Option ℕ
+broken rule breaks = if breaks then Some rule else None
+
+-- the least rule that a register breaks
+abbrev pub register_rule : List RegisterKind → ℕ → Wanted → Option ℕ
+register_rule kinds register wanted = option_or (broken 3 (is_outside kinds register)) (broken 4 (has_other_kind kinds register wanted))
+
+-- the least that a value for a register breaks: an address can be made of 0 alone
+abbrev pub value_rule : List RegisterKind → ℕ → ℕ → Option ℕ
+value_rule kinds value register = option_or (broken 1 (nat_le (2 ^ 44) value)) (broken 4 (nat_lt 0 value && is_of_kind (slice_get kinds register) Address))
+
+-- the least rule that a field of the instruction at a place of a function breaks
+abbrev pub field_rule : MidProgram → MidFunction → ℕ → Field → Option ℕ
+field_rule program function place (Writes register wanted) = register_rule function.kinds register wanted
+field_rule program function place (Reads register wanted) = register_rule function.kinds register wanted
+field_rule program function place (Passes args) = broken 3 (list_any (is_outside function.kinds) (registers_list args))
+field_rule program function place (Value value register) = value_rule function.kinds value register
+field_rule program function place (Operator op) = None
+field_rule program function place (Comparison op) = broken 3 (not (is_comparison op))
+field_rule program function place (AnyType ty) = None
+field_rule program function place (ArithmeticType ty) = broken 3 (not (has_arithmetic ty))
+field_rule program function place (Negated negated) = None
+field_rule program function place (Scale scale) = broken 3 (scale == 0)
+field_rule program function place (Cells cells) = broken 1 (cells == 0)
+field_rule program function place (StaticObject object) = broken 3 (not (is_static program object))
+field_rule program function place (Callable number) = broken 3 (not (is_callable program number))
+field_rule program function place (TypeNumber ty) = broken 3 (nat_le (length program.types) ty)
+field_rule program function place (Beginning begun) = broken 5 (nat_le (length function.code) begun)
+field_rule program function place (Target target) = broken 5 (is_bad_target function.code place target)
+
+-- the lesser of two rules, of those that are there
+abbrev pub lesser : Option ℕ → Option ℕ → Option ℕ
+lesser None second = second
+lesser (Some first) None = Some first
+lesser (Some first) (Some second) = if nat_lt second first then Some second else Some first
+
+-- the least rule that one of some fields breaks
+abbrev pub fields_rule : MidProgram → MidFunction → ℕ → List Field → Option ℕ
+fields_rule program function place [] = None
+fields_rule program function place (field ∷ rest) = lesser (field_rule program function place field) (fields_rule program function place rest)
 
 -- Rule 6: the last instruction is one that no other follows
-abbrev pub is_final : Mid → Bool
-is_final (Jump target) = true
-is_final (Return source) = true
-is_final (Exit source) = true
-is_final _ = false
-
 abbrev pub runs_out : List MidLine → ℕ → Mid → Bool
 runs_out code place mid = place + 1 == length code && not (is_final mid)
 
@@ -174,13 +186,34 @@ misreturns kinds source None = false
 misreturns kinds source (Some type) = not (is_of_kind (slice_get kinds source) type.result)
 
 abbrev pub misfits : MidProgram → ℕ → MidFunction → Mid → Bool
+misfits program number function (Const target value) = false
+misfits program number function (Move target source) = false
+misfits program number function (Arith op ty target left right) = false
+misfits program number function (Conv from to target source) = false
+misfits program number function (PtrAdd target pointer index ty negated scale) = false
+misfits program number function (PtrDiff target left right scale) = false
+misfits program number function (PtrCmp op target left right) = false
+misfits program number function (GlobAddr target object) = false
+misfits program number function (FunAddr target callee) = false
+misfits program number function (Load target pointer) = false
+misfits program number function (Store pointer source) = false
+misfits program number function (VLoad target pointer) = false
+misfits program number function (VStore pointer source) = false
+misfits program number function (Open target cells) = false
+misfits program number function (Close place) = false
+misfits program number function (Jump place) = false
+misfits program number function (JumpZ source place) = false
+misfits program number function (JumpN source place) = false
+misfits program number function Turn = false
 misfits program number function (Call target callee args) =
     misfits_type function.kinds target (registers_list args) (type_of program (function_at program callee))
 misfits program number function (CallPtr target callee ty args) =
     misfits_type function.kinds target (registers_list args) (slice_get program.types ty)
 misfits program number function (Return source) =
     number == program.main || misreturns function.kinds source (slice_get program.types function.ty)
-misfits program number function _ = false
+misfits program number function (Put source) = false
+misfits program number function (Get target) = false
+misfits program number function (Exit source) = false
 
 -- the first registers of a function are its parameters
 abbrev pub starts_with_kinds : List RegisterKind → List RegisterKind → Bool
@@ -192,30 +225,20 @@ abbrev pub misfits_params : MidFunction → Option FunType → Bool
 misfits_params function None = false
 misfits_params function (Some type) = not (starts_with_kinds function.kinds type.params)
 
--- the number of the least rule that is broken, by which of them are: 1, 3, 4, 5, 6 and 7
-abbrev pub least_rule : Bool → Bool → Bool → Bool → Bool → Bool → Option ℕ
-least_rule one three four five six seven =
-    if one then Some 1
-    else if three then Some 3
-    else if four then Some 4
-    else if five then Some 5
-    else if six then Some 6
-    else if seven then Some 7
-    else None
+-- a function's parameters count with its first instruction
+abbrev pub misfits_at : MidProgram → ℕ → MidFunction → ℕ → Mid → Bool
+misfits_at program number function place mid =
+    misfits program number function mid || (place == 0 && misfits_params function (slice_get program.types function.ty))
 
--- the least of these that an instruction breaks at its place. A function's parameters count with its first instruction
+-- the least rule that an instruction breaks at its place, but for the order of open objects, and with it
 unfoldable pub early_rule : MidProgram → ℕ → MidFunction → ℕ → Mid → Option ℕ
 early_rule program number function place mid =
-    least_rule (is_beyond mid) (has_outside function.kinds (operands mid) || names_nothing program mid) (has_other_kind function.kinds (operands mid) || mixes_kinds function.kinds mid)
-    (jumps_wrongly function.code place mid) (runs_out function.code place mid) (misfits program number function mid || (place == 0 && misfits_params function (slice_get program.types function.ty)))
-
--- and where it breaks none of them, rule 8
-abbrev pub or_order : Option ℕ → Bool → Option ℕ
-or_order (Some rule) breaks = Some rule
-or_order None breaks = if breaks then Some 8 else None
+    option_or (option_or (fields_rule program function place (fields mid)) (broken 6 (runs_out function.code place mid)))
+    (broken 7 (misfits_at program number function place mid))
 
 abbrev pub instruction_rule : MidProgram → ℕ → MidFunction → ℕ → Mid → Option ℕ
-instruction_rule program number function place mid = or_order (early_rule program number function place mid) (breaks_order function.code place mid)
+instruction_rule program number function place mid =
+    option_or (early_rule program number function place mid) (broken 8 (breaks_order function.code place mid))
 
 abbrev pub line_rule : MidProgram → ℕ → MidFunction → ℕ → Option MidLine → Option ℕ
 line_rule program number function place None = None

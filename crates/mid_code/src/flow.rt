@@ -2,11 +2,11 @@ ghost use Rattle.std.specs.Prelude.{◌≡◌, ℕ, ◌+◌, ◌<◌, ◌≤◌,
 ghost use Rattle.std.specs.List.{list_any};
 ghost use Rattle.mid_code.specs.declared.program.MidLine.{MidLine};
 ghost use Rattle.std.specs.Bool.{OnFalse};
-ghost use Rattle.mid_code.specs.Flow.{goes_to, breaks_order};
-ghost use Rattle.mid_code.specs.Row.{Holds, left_number, number_closes_wrongly, row_entered, row_after, has_other_number};
+ghost use Rattle.mid_code.specs.Flow.{way_goes, breaks_order};
+ghost use Rattle.mid_code.specs.Row.{Holds, number_behind, number_closes_wrongly, row_entered, row_after, has_other_number};
 
-use crate::mid::Mid;
 use crate::program::MidLine;
+use crate::way::{Way, way_of};
 
 /// Enters a target beyond the place, unless another place has entered it before.
 fn enter(row: &mut [u32], limit: usize, place: usize, target: usize, left: u32)
@@ -51,46 +51,44 @@ fn pass_to(row: &mut [u32], limit: usize, place: usize, targets: &[usize], left:
     has_any_other(row, limit, targets, left)
 }
 
-/// The same, of an instruction.
-fn pass_on(row: &mut [u32], limit: usize, place: usize, mid: &Mid, left: u32) -> bool
+/// The same, of an instruction that leads so.
+fn pass_on(row: &mut [u32], limit: usize, place: usize, way: Way, left: u32) -> bool
     requires room { limit ≤ length row.old }
     requires here { place < limit }
-    ensures row { row.new ≡ row_after limit place left (goes_to place mid.now) row.old }
-    ensures other { result ≡ list_any (λ target. has_other_number limit left row.new target) (goes_to place mid.now) }
+    ensures row { row.new ≡ row_after limit place left (way_goes place way) row.old }
+    ensures other { result ≡ list_any (λ target. has_other_number limit left row.new target) (way_goes place way) }
 {
     let next = place + 1;
-    match mid {
-        Mid::Jump { place: target } => pass_to(row, limit, place, &[*target as usize], left),
-        Mid::JumpZ { place: target, .. } => {
-            pass_to(row, limit, place, &[next, *target as usize], left)
+    match way {
+        Way::Next | Way::Counts | Way::Begins | Way::Ends(_) => {
+            pass_to(row, limit, place, &[next], left)
         }
-        Mid::JumpN { place: target, .. } => {
-            pass_to(row, limit, place, &[next, *target as usize], left)
-        }
-        Mid::Return { .. } => pass_to(row, limit, place, &[], left),
-        Mid::Exit { .. } => pass_to(row, limit, place, &[], left),
-        _ => pass_to(row, limit, place, &[next], left),
+        Way::Jumps(target) => pass_to(row, limit, place, &[target as usize], left),
+        Way::Branches(target) => pass_to(row, limit, place, &[next, target as usize], left),
+        Way::Returns | Way::Stops => pass_to(row, limit, place, &[], left),
     }
 }
 
-fn closes_wrongly(mid: &Mid, here: u32) -> bool
-    ensures { result ≡ number_closes_wrongly mid.now here }
+fn closes_wrongly(way: Way, here: u32) -> bool
+    ensures { result ≡ number_closes_wrongly way here }
 {
-    match mid {
-        Mid::Close { place: begun } => u64::from(here) != u64::from(*begun) + 2,
-        Mid::Return { .. } => here != 1,
-        _ => false,
+    match way {
+        Way::Ends(begun) => u64::from(here) != u64::from(begun) + 2,
+        Way::Returns => here != 1,
+        Way::Next | Way::Counts | Way::Begins | Way::Jumps(_) | Way::Branches(_) | Way::Stops =>
+            false,
     }
 }
 
-fn left_number(row: &[u32], place: usize, mid: &Mid, here: u32) -> u32
+fn number_behind(row: &[u32], place: usize, way: Way, here: u32) -> u32
     requires { place < 65535 }
-    ensures { result ≡ left_number row.now place mid.now here }
+    ensures { result ≡ number_behind row.now place way here }
 {
-    match mid {
-        Mid::Open { .. } => place as u32 + 2,
-        Mid::Close { place: begun } => row.get(*begun as usize).copied().unwrap_or(0),
-        _ => here,
+    match way {
+        Way::Begins => place as u32 + 2,
+        Way::Ends(begun) => row.get(begun as usize).copied().unwrap_or(0),
+        Way::Next | Way::Counts | Way::Jumps(_) | Way::Branches(_) | Way::Returns | Way::Stops =>
+            here,
     }
 }
 
@@ -108,10 +106,10 @@ pub fn breaks_order(row: &mut [u32], code: &[MidLine], place: usize) -> bool
     if here == 0 {
         return false;
     }
-    let line = code[place];
-    if closes_wrongly(&line.mid, here) {
+    let way = way_of(&code[place].mid);
+    if closes_wrongly(way, here) {
         return true;
     }
-    let left = left_number(row, place, &line.mid, here);
-    pass_on(row, code.len(), place, &line.mid, left)
+    let left = number_behind(row, place, way, here);
+    pass_on(row, code.len(), place, way, left)
 }

@@ -2,9 +2,9 @@ ghost use Rattle.std.specs.Prelude.{◌≡◌, ℕ, ◌^◌, nat_le, ◌<◌, �
 ghost use Rattle.std.specs.List.{list_any};
 ghost use Rattle.mid_code.specs.Rules.{has_large_type, has_bad_parts, is_bad_static, has_bad_statics, breaks_program, is_number_alone, has_bad_type, breaks_function};
 
-use crate::operands::same_kind;
-use crate::program::{FunType, MidFunction, MidProgram, RegisterKind, Static};
-use crate::rules::VALUES;
+use crate::program::{FunType, MidFunction, MidProgram, RegisterKind};
+use crate::rules::{VALUES, same_kind};
+use srmt_base::Static;
 
 /// The most types of a program, and the most instructions of a function.
 const MOST: usize = 65_535;

@@ -2,51 +2,63 @@ ghost use Rattle.std.specs.Prelude.{◌≡◌};
 ghost use Rattle.std.specs.Option.{option_copied};
 ghost use Rattle.mid_code.specs.Versions.{version_at};
 
-use crate::class::Class;
+use crate::class::{Class, Shared};
 use crate::program::MidProgram;
 use crate::version::{Version, VersionLine};
 use sqlite_items::Items;
 use std::marker::Model;
 
-/// A valid program with the class, and the site, of each instruction of its protected functions.
+/// A valid program with what is shared of its protected functions, and the class and the site of
+/// each of their instructions.
 #[derive(Debug, Drop)]
 pub struct Classed {
     program: MidProgram,
+    shared: Items<Shared>,
     classes: Items<Items<Class>>,
 }
 
 impl Model for Classed {
     ghost use Rattle.std.specs.Prelude.{◌≡◌};
-    ghost use Rattle.mid_code.specs.declared.program.MidProgram.{MidProgram};
-    ghost use Rattle.mid_code.specs.Classes.{classes_of};
+    ghost use Rattle.mid_code.specs.Classes.{SharedProgram, classes_of, shared_program};
     ghost use Rattle.mid_code.specs.Pairs.{HasSites};
 
-    ghost Value = { MidProgram };
+    ghost Value = { SharedProgram };
 
-    ghost view = { λ c. c.program };
+    ghost view = { λ c. shared_program c.program c.shared };
 
-    ghost invariant = { λ c. HasSites c.program × (c.classes ≡ classes_of c.program) };
+    ghost invariant = { λ c. HasSites (shared_program c.program c.shared) × (c.classes ≡ classes_of (shared_program c.program c.shared)) };
 }
 
 impl Classed {
     ghost use Rattle.std.specs.Prelude.{◌≡◌};
-    ghost use Rattle.mid_code.specs.Classes.{classes_of};
+    ghost use Rattle.mid_code.specs.Classes.{classes_of, shared_program};
     ghost use Rattle.mid_code.specs.Pairs.{HasSites};
 
     /// A program with the classes of its instructions, a row for each protected function.
-    pub fn new(program: MidProgram, classes: Items<Items<Class>>) -> Self
-        requires sites { HasSites program }
-        requires classes { classes ≡ classes_of program }
-        ensures { result ≡ program }
+    pub fn new(program: MidProgram, shared: Items<Shared>, classes: Items<Items<Class>>) -> Self
+        requires sites { HasSites (shared_program program shared) }
+        requires classes { classes ≡ classes_of (shared_program program shared) }
+        ensures { result ≡ shared_program program shared }
     {
-        Classed { program, classes }
+        Classed {
+            program,
+            shared,
+            classes,
+        }
     }
 
     pub fn program(&self) -> &MidProgram
-        ensures same { result.now ≡ self.now }
+        ensures same { result.now ≡ self.now.program }
         ensures sites { HasSites self.now }
     {
         &self.program
+    }
+
+    /// What is shared of each protected function.
+    pub fn shared(&self) -> &Items<Shared>
+        ensures { result.now ≡ self.now.shared }
+    {
+        &self.shared
     }
 
     pub fn classes(&self) -> &Items<Items<Class>>
@@ -66,10 +78,10 @@ pub struct Pair {
 
 impl Model for Pair {
     ghost use Rattle.std.specs.Prelude.{◌≡◌};
-    ghost use Rattle.mid_code.specs.declared.program.MidProgram.{MidProgram};
+    ghost use Rattle.mid_code.specs.Classes.{SharedProgram};
     ghost use Rattle.mid_code.specs.Versions.{leading_versions, trailing_versions};
 
-    ghost Value = { MidProgram };
+    ghost Value = { SharedProgram };
 
     ghost view = { λ p. p.program };
 

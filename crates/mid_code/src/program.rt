@@ -1,5 +1,6 @@
 use crate::mid::Mid;
 use sqlite_items::Items;
+use srmt_base::Static;
 
 /// What a register holds for its whole function.
 #[derive(Clone, Copy, Debug, PartialEq, Eq)]
@@ -17,17 +18,6 @@ pub struct FunType {
     pub params: Items<RegisterKind>,
     /// The kind of the result. That of a function without a result is `Number`.
     pub result: RegisterKind,
-}
-
-/// An object of static storage duration (C11 6.2.4p3) with its contents before `main` is called.
-#[derive(Debug, Drop)]
-pub struct Static {
-    /// How many cells it has, from 1.
-    pub cells: u16,
-    /// Whether it is a string literal or `const`.
-    pub read_only: bool,
-    /// The contents of its first cells, the last of them not 0. All further cells hold 0.
-    pub values: Items<u64>,
 }
 
 /// An instruction with the line of the source that it comes from.

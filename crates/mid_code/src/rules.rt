@@ -1,12 +1,15 @@
-ghost use Rattle.std.specs.Prelude.{◌≡◌, ℕ, ◌<◌, ◌≤◌, length, slice_get, Some};
+ghost use Rattle.std.specs.Prelude.{◌≡◌, ℕ, ◌<◌, ◌≤◌, length, slice_get, Some, option_and_then};
+ghost use Rattle.std.specs.List.{list_any};
 ghost use Rattle.mid_code.specs.Registers.{registers_list};
-ghost use Rattle.mid_code.specs.Rules.{is_beyond, is_static, is_callable, names_nothing, is_of_other_kind, mixes_kinds, counts_turn, is_turn, is_bad_target, jumps_wrongly, is_final, runs_out, are_of_kinds, starts_with_kinds, misfits_type, misreturns, misfits, misfits_params, type_of};
+ghost use Rattle.mid_code.specs.Fields.{present};
+ghost use Rattle.mid_code.specs.Rules.{same_kind, is_of_kind, is_outside, is_static, is_callable, has_arithmetic, is_of_other_kind, has_other_kind, is_turn, is_bad_target, broken, register_rule, value_rule, field_rule, lesser, fields_rule, runs_out, are_of_kinds, starts_with_kinds, misfits_type, misreturns, misfits, misfits_params, type_of};
 ghost use Rattle.mid_code.specs.Program.{function_at};
 
+use crate::field::{Field, Wanted};
 use crate::mid::Mid;
-use crate::operands::{is_of_kind, same_kind};
 use crate::program::{MidFunction, MidLine, MidProgram, RegisterKind};
 use crate::registers::Registers;
+use crate::way::way_of;
 use srmt_base::Ty;
 
 /// The first number of an object of the binary file.
@@ -15,14 +18,44 @@ const BINARY_OBJECTS: u32 = 134_217_728;
 /// The least number that is no value.
 pub const VALUES: u64 = 1 << 44;
 
-pub fn is_beyond(mid: &Mid) -> bool
-    ensures { result ≡ is_beyond mid.now }
+/// Whether two kinds are the same.
+pub fn same_kind(left: RegisterKind, right: RegisterKind) -> bool
+    ensures { result ≡ same_kind left right }
 {
-    match mid {
-        Mid::Const { value, .. } => VALUES <= *value,
-        Mid::Open { cells, .. } => *cells == 0,
-        _ => false,
+    match left {
+        RegisterKind::Number => match right {
+            RegisterKind::Number => true,
+            RegisterKind::Address => false,
+        },
+        RegisterKind::Address => match right {
+            RegisterKind::Number => false,
+            RegisterKind::Address => true,
+        },
     }
+}
+
+/// Whether a register is there, and has this kind.
+fn is_of_kind(kinds: &[RegisterKind], register: u16, kind: RegisterKind) -> bool
+    ensures { result ≡ is_of_kind (slice_get kinds.now register) kind }
+{
+    match kinds.get(usize::from(register)) {
+        Some(found) => same_kind(*found, kind),
+        None => false,
+    }
+}
+
+fn is_outside(kinds: &[RegisterKind], register: u16) -> bool
+    ensures { result ≡ is_outside kinds.now register }
+{
+    kinds.len() <= usize::from(register)
+}
+
+fn is_any_outside(kinds: &[RegisterKind], registers: &[u16]) -> bool
+    ensures { result ≡ list_any (is_outside kinds.now) registers.now }
+{
+    registers
+        .iter()
+        .any(|register| is_outside(kinds, *register))
 }
 
 fn is_static(program: &MidProgram, object: u32) -> bool
@@ -40,53 +73,33 @@ fn is_callable(program: &MidProgram, function: u16) -> bool
     1 <= function && usize::from(function) <= program.functions.len() && function != program.main
 }
 
-/// Whether an instruction names an object, a function, a type or an operator that is not there,
-/// or a scale of 0.
-pub fn names_nothing(program: &MidProgram, mid: &Mid) -> bool
-    ensures { result ≡ names_nothing program.now mid.now }
+/// Whether arithmetic is made at a type.
+fn has_arithmetic(ty: Ty) -> bool
+    ensures { result ≡ has_arithmetic ty }
 {
-    match mid {
-        Mid::Arith { ty, .. } => !matches!(ty, Ty::Int | Ty::UInt),
-        Mid::PtrAdd { scale, .. } => *scale == 0,
-        Mid::PtrDiff { scale, .. } => *scale == 0,
-        Mid::PtrCmp { op, .. } => !op.is_comparison(),
-        Mid::GlobAddr { object, .. } => !is_static(program, *object),
-        Mid::FunAddr { function, .. } => !is_callable(program, *function),
-        Mid::Call { function, .. } => !is_callable(program, *function),
-        Mid::CallPtr { ty, .. } => program.types.len() <= usize::from(*ty),
-        _ => false,
+    match ty {
+        Ty::Int | Ty::UInt => true,
+        Ty::Bool | Ty::Char | Ty::SChar | Ty::UChar | Ty::Short | Ty::UShort => false,
     }
 }
 
-fn copies_across(kinds: &[RegisterKind], target: u16, source: u16) -> bool
-    ensures { result ≡ is_of_other_kind (slice_get kinds.now target) (slice_get kinds.now source) }
+/// Whether a register has another kind than another.
+fn differs(kinds: &[RegisterKind], register: u16, other: u16) -> bool
+    ensures { result ≡ is_of_other_kind (slice_get kinds.now register) (slice_get kinds.now other) }
 {
-    match kinds.get(usize::from(source)) {
-        Some(kind) => !is_of_kind(kinds, target, *kind),
+    match kinds.get(usize::from(other)) {
+        Some(kind) => !is_of_kind(kinds, register, *kind),
         None => false,
     }
 }
 
-/// Whether an instruction makes an address of a number, or copies a register to one of the other
-/// kind.
-pub fn mixes_kinds(kinds: &[RegisterKind], mid: &Mid) -> bool
-    ensures { result ≡ mixes_kinds kinds.now mid.now }
+fn has_other_kind(kinds: &[RegisterKind], register: u16, wanted: Wanted) -> bool
+    ensures { result ≡ has_other_kind kinds.now register wanted }
 {
-    match mid {
-        Mid::Const { target, value } => {
-            is_of_kind(kinds, *target, RegisterKind::Address) && 0 < *value
-        }
-        Mid::Move { target, source } => copies_across(kinds, *target, *source),
-        _ => false,
-    }
-}
-
-fn counts_turn(mid: &Mid) -> bool
-    ensures { result ≡ counts_turn mid.now }
-{
-    match mid {
-        Mid::Turn => true,
-        _ => false,
+    match wanted {
+        Wanted::Any => false,
+        Wanted::Kind(kind) => !is_of_kind(kinds, register, kind),
+        Wanted::Like(other) => differs(kinds, register, other),
     }
 }
 
@@ -94,7 +107,7 @@ fn is_turn(code: &[MidLine], place: usize) -> bool
     ensures { result ≡ is_turn (slice_get code.now place) }
 {
     match code.get(place) {
-        Some(line) => counts_turn(&line.mid),
+        Some(line) => way_of(&line.mid).is_counting(),
         None => false,
     }
 }
@@ -106,26 +119,107 @@ fn is_bad_target(code: &[MidLine], place: usize, target: u32) -> bool
     code.len() <= target || (target <= place && !is_turn(code, target))
 }
 
-/// Whether an instruction names a place past the code, or jumps back to other than a `Turn`.
-pub fn jumps_wrongly(code: &[MidLine], place: usize, mid: &Mid) -> bool
-    ensures { result ≡ jumps_wrongly code.now place mid.now }
+/// A rule that is broken.
+pub fn broken(rule: u8, breaks: bool) -> Option<u8>
+    ensures { result ≡ broken rule breaks }
 {
-    match mid {
-        Mid::Close { place: begun } => code.len() <= *begun as usize,
-        Mid::Jump { place: target } => is_bad_target(code, place, *target),
-        Mid::JumpZ { place: target, .. } => is_bad_target(code, place, *target),
-        Mid::JumpN { place: target, .. } => is_bad_target(code, place, *target),
-        _ => false,
+    if breaks { Some(rule) } else { None }
+}
+
+/// The least rule that a register breaks.
+fn register_rule(kinds: &[RegisterKind], register: u16, wanted: Wanted) -> Option<u8>
+    ensures { result ≡ register_rule kinds.now register wanted }
+{
+    if is_outside(kinds, register) {
+        return Some(3);
+    }
+    broken(4, has_other_kind(kinds, register, wanted))
+}
+
+/// The least rule that a value for a register breaks.
+fn value_rule(kinds: &[RegisterKind], value: u64, register: u16) -> Option<u8>
+    ensures { result ≡ value_rule kinds.now value register }
+{
+    if VALUES <= value {
+        return Some(1);
+    }
+    broken(
+        4,
+        0 < value && is_of_kind(kinds, register, RegisterKind::Address),
+    )
+}
+
+/// The least rule that a field of the instruction at a place of a function breaks.
+pub fn field_rule(
+    program: &MidProgram,
+    function: &MidFunction,
+    place: usize,
+    field: &Field,
+) -> Option<u8>
+    ensures { result ≡ field_rule program.now function.now place field.now }
+{
+    let kinds = function.kinds.as_slice();
+    match field {
+        Field::Writes { register, kind } | Field::Reads { register, kind } => {
+            register_rule(kinds, *register, *kind)
+        }
+        Field::Passes(args) => broken(3, is_any_outside(kinds, args.as_slice())),
+        Field::Value { value, register } => value_rule(kinds, *value, *register),
+        Field::Operator(_) | Field::AnyType(_) | Field::Negated(_) => None,
+        Field::Comparison(op) => broken(3, !op.is_comparison()),
+        Field::ArithmeticType(ty) => broken(3, !has_arithmetic(*ty)),
+        Field::Scale(scale) => broken(3, *scale == 0),
+        Field::Cells(cells) => broken(1, *cells == 0),
+        Field::StaticObject(object) => broken(3, !is_static(program, *object)),
+        Field::Callable(number) => broken(3, !is_callable(program, *number)),
+        Field::TypeNumber(ty) => broken(3, program.types.len() <= usize::from(*ty)),
+        Field::Beginning(begun) => broken(5, function.code.len() <= *begun as usize),
+        Field::Target(target) => broken(5, is_bad_target(function.code.as_slice(), place, *target)),
     }
 }
 
-fn is_final(mid: &Mid) -> bool
-    ensures { result ≡ is_final mid.now }
+/// The lesser of two rules, of those that are there.
+fn lesser(first: Option<u8>, second: Option<u8>) -> Option<u8>
+    ensures { result ≡ lesser first second }
 {
-    match mid {
-        Mid::Jump { .. } | Mid::Return { .. } | Mid::Exit { .. } => true,
-        _ => false,
+    match first {
+        None => second,
+        Some(one) => match second {
+            None => first,
+            Some(two) => { if two < one { second } else { first } }
+        },
     }
+}
+
+/// The same of a field that may be there.
+fn item_rule(
+    program: &MidProgram,
+    function: &MidFunction,
+    place: usize,
+    item: &Option<Field>,
+) -> Option<u8>
+    ensures { result ≡ option_and_then (field_rule program.now function.now place) item.now }
+{
+    match item {
+        Some(field) => field_rule(program, function, place, field),
+        None => None,
+    }
+}
+
+/// The least rule that one of some fields breaks.
+pub fn fields_rule(
+    program: &MidProgram,
+    function: &MidFunction,
+    place: usize,
+    row: &[Option<Field>],
+) -> Option<u8>
+    ensures { result ≡ fields_rule program.now function.now place (present row.now) }
+{
+    let mut least = None;
+    for item in row {
+        least = lesser(least, item_rule(program, function, place, item));
+    }
+    least
 }
 
 /// Whether an instruction is the last, and yet would be followed by another.
@@ -133,7 +227,7 @@ pub fn runs_out(code: &[MidLine], place: usize, mid: &Mid) -> bool
     requires { place < length code.now }
     ensures { result ≡ runs_out code.now place mid.now }
 {
-    place + 1 == code.len() && !is_final(mid)
+    place + 1 == code.len() && !way_of(mid).is_final()
 }
 
 fn are_of_kinds(kinds: &[RegisterKind], args: &[u16], params: &[RegisterKind]) -> bool
@@ -224,7 +318,28 @@ pub fn misfits(program: &MidProgram, number: u16, function: &MidFunction, mid: &
         Mid::Return { source } => {
             number == program.main || misreturns(program, kinds, *source, function.ty)
         }
-        _ => false,
+        Mid::Const { .. }
+        | Mid::Move { .. }
+        | Mid::Arith { .. }
+        | Mid::Conv { .. }
+        | Mid::PtrAdd { .. }
+        | Mid::PtrDiff { .. }
+        | Mid::PtrCmp { .. }
+        | Mid::GlobAddr { .. }
+        | Mid::FunAddr { .. }
+        | Mid::Load { .. }
+        | Mid::Store { .. }
+        | Mid::VLoad { .. }
+        | Mid::VStore { .. }
+        | Mid::Open { .. }
+        | Mid::Close { .. }
+        | Mid::Jump { .. }
+        | Mid::JumpZ { .. }
+        | Mid::JumpN { .. }
+        | Mid::Turn
+        | Mid::Put { .. }
+        | Mid::Get { .. }
+        | Mid::Exit { .. } => false,
     }
 }
 

@@ -1,4 +1,4 @@
-use Rattle.mid_code.proofs.Exactness.{counts_exactly}
+use Rattle.mid_code.proofs.BudgetsExact.{counts_exactly}
 use Rattle.mid_code.proofs.laws.budgets_are_exact.Goals as goal
 
 pub returns : goal.returns

@@ -1,4 +1,4 @@
-use Rattle.mid_code.proofs.Bounding.{short}
+use Rattle.mid_code.proofs.RunsEnd.{short}
 use Rattle.mid_code.proofs.laws.is_bounded.Goals as goal
 
 pub returns : goal.returns

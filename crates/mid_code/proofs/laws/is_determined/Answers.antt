@@ -1,5 +1,5 @@
 use Rattle.mid_code.specs.Meaning.{started}
-use Rattle.mid_code.proofs.Runs.{one_end}
+use Rattle.mid_code.proofs.OneMeaning.{one_end}
 use Rattle.mid_code.proofs.laws.is_determined.Goals as goal
 
 pub returns : goal.returns

@@ -1,7 +1,7 @@
 use Rattle.mid_code.specs.Meaning.{started}
-use Rattle.mid_code.proofs.Fitting.{fits_after}
-use Rattle.mid_code.proofs.Smallness.{small_by_fit}
-use Rattle.mid_code.proofs.Starting.{fits_started}
+use Rattle.mid_code.proofs.StatesFit.{fits_after}
+use Rattle.mid_code.proofs.ValuesSmall.{small_by_fit}
+use Rattle.mid_code.proofs.StartFits.{fits_started}
 use Rattle.mid_code.proofs.laws.values_stay_small.Goals as goal
 
 pub returns : goal.returns
