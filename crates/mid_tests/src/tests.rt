@@ -319,6 +319,11 @@ fn limits_are_kept(rt: HostRuntime) -> Result<(), Fail> {
     }
     let empty = program(rt.alloc(), &SHAPE, &[END], &[])?;
     assert_eq!(rt; answer(&empty), Some((2, 0, 1)));
+    assert_eq!(rt; empty.line(1, 0), Some(MidLine { line: 1, mid: END }));
+    for (function, place) in [(0, 0), (1, 1), (2, 0), (4, 0)] {
+        assert_eq!(rt; empty.line(function, place), None, "{function}:{place}");
+    }
+    assert!(rt; empty.function(3).is_some());
     Ok(())
 }
 
