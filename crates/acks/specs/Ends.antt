@@ -1,10 +1,11 @@
 -- What clauses see of an end, and of what is left of it once it is closed.
-use Rattle.std.specs.Prelude.{◌≡◌, ℕ, Bool, List, ◌++◌}
+use Rattle.std.specs.Prelude.{◌≡◌, ℕ, length}
 use Rattle.batch_queue.specs.Views.{free_places, new_sender, new_receiver}
 use Rattle.batch_queue.specs.Ends.{sending, taking, sends_to, takes_from}
 use Rattle.batch_queue.specs.declared.view.SendView.{SendView}
 use Rattle.batch_queue.specs.declared.view.TakeView.{TakeView}
 use Rattle.machine.specs.Origin.{Origin, Queues}
+use Rattle.machine.specs.Link.{Shown}
 use Rattle.machine.specs.declared.link_call.LastCall.{LastCall}
 use Rattle.machine.specs.declared.link_call.LastCall.TheVariants.{Nothing}
 use Rattle.acks.specs.declared.side_ends.SideEnds.{SideEnds}
@@ -22,27 +23,25 @@ takes e = taking e.receiver
 abbrev pub made_of : {out out_batch back back_batch : ℕ} → SideEnds out out_batch back back_batch → Origin
 made_of e = Queues (sends_to e.sender) (takes_from e.receiver)
 
--- all words that it sent, those that were dropped last
-abbrev pub sent_of : {out out_batch back back_batch : ℕ} → SideEnds out out_batch back back_batch → List ℕ
-sent_of e = (sends e).sent ++ (sends e).dropped
-
--- the words that it took
-abbrev pub taken_of : {out out_batch back back_batch : ℕ} → SideEnds out out_batch back back_batch → List ℕ
-taken_of e = (takes e).received
-
--- how many more words fit by what is known, and whether the other side is known to be gone
-abbrev pub spare_of : {out out_batch back back_batch : ℕ} → SideEnds out out_batch back back_batch → ℕ
-spare_of {out} e = free_places out (sends e)
-
-abbrev pub gone_of : {out out_batch back back_batch : ℕ} → SideEnds out out_batch back back_batch → Bool
-gone_of e = (sends e).known_gone
-
 -- how many calls of `room` and `take` there were, and the latest of them
 abbrev pub asks_of : {out out_batch back back_batch : ℕ} → SideEnds out out_batch back back_batch → ℕ
 asks_of e = e.asks
 
 abbrev pub last_of : {out out_batch back back_batch : ℕ} → SideEnds out out_batch back back_batch → LastCall
 last_of e = e.last
+
+-- what it shows as a link: what its sender and its receiver know
+abbrev pub shown_of : {out out_batch back back_batch : ℕ} → SideEnds out out_batch back back_batch → Shown
+shown_of {out} e = record {
+  made = made_of e;
+  sent = (sends e).sent;
+  dropped = length (sends e).dropped;
+  taken = (takes e).received;
+  spare = free_places out (sends e);
+  gone = (sends e).known_gone;
+  asks = asks_of e;
+  last = last_of e;
+}
 
 -- nothing sent, taken, known or asked
 pub record IsNew {out out_batch back back_batch : ℕ} (e : SideEnds out out_batch back back_batch) : Type 0 where
@@ -60,7 +59,3 @@ done_takes d = taking d.receiver
 
 abbrev pub done_made : {out out_batch back back_batch : ℕ} → SideDone out out_batch back back_batch → Origin
 done_made d = Queues (sends_to d.sender) (takes_from d.receiver)
-
--- all words that it sent, those that were dropped last
-abbrev pub done_sent : {out out_batch back back_batch : ℕ} → SideDone out out_batch back back_batch → List ℕ
-done_sent d = (done_sends d).sent ++ (done_sends d).dropped

@@ -152,21 +152,10 @@ impl<const OUT: usize, const OUT_BATCH: usize, const BACK: usize, const BACK_BAT
 
 impl<const OUT: usize, const OUT_BATCH: usize, const BACK: usize, const BACK_BATCH: usize> Link
     for SideEnds<OUT, OUT_BATCH, BACK, BACK_BATCH> {
-    ghost use Rattle.acks.specs.Ends.{sends, takes, made_of, sent_of, taken_of, spare_of, gone_of, asks_of, last_of};
+    ghost use Rattle.machine.specs.Link.{HasRoom, SentBelow, IsAsked, IsSent};
+    ghost use Rattle.acks.specs.Ends.{sends, takes, shown_of};
 
-    ghost made = { made_of };
-
-    ghost sent = { sent_of };
-
-    ghost taken = { taken_of };
-
-    ghost spare = { spare_of };
-
-    ghost gone = { gone_of };
-
-    ghost asks = { asks_of };
-
-    ghost last = { last_of };
+    ghost shows = { shown_of };
 
     fn room(&mut self, words: u8) -> bool
         // Where it need not look, it publishes and releases nothing.
@@ -184,13 +173,8 @@ impl<const OUT: usize, const OUT_BATCH: usize, const BACK: usize, const BACK_BAT
             × ((sends self.new).published ≡ length (sends self.new).sent) }
         ensures granted { IsTrue result
             ↔ ((words ≤ free_places OUT (sends self.new)) ⊎ ((sends self.new).known_gone ≡ true)) }
-        ensures room { IsTrue result → (words ≤ spare_of self.new) ⊎ (gone_of self.new ≡ true) }
-        ensures asks { asks_of self.new ≡ next_count (asks_of self.old) }
-        ensures last { last_of self.new ≡ Room words result }
-        ensures made { made_of self.new ≡ made_of self.old }
-        ensures sent { sent_of self.new ≡ sent_of self.old }
-        ensures taken { taken_of self.new ≡ taken_of self.old }
-        ensures stays_gone { gone_of self.old ≡ true → gone_of self.new ≡ true }
+        ensures room { IsTrue result → HasRoom words (shown_of self.new) }
+        ensures asked { IsAsked (Room words result) (shown_of self.old) (shown_of self.new) }
     {
         if !self.has_room(words) {
             self.look_for_room();
@@ -202,21 +186,13 @@ impl<const OUT: usize, const OUT_BATCH: usize, const BACK: usize, const BACK_BAT
     }
 
     fn send(&mut self, word: Word)
-        requires room { (1 ≤ spare_of self.old) ⊎ (gone_of self.old ≡ true) }
-        requires countable { length (sent_of self.old) < 2 ^ 63 - 1 }
-        // It is dropped exactly where the other side is known to be gone. There is no look.
+        requires room { HasRoom 1 (shown_of self.old) }
+        requires countable { SentBelow (2 ^ 63 - 1) (shown_of self.old) }
+        // There is no look.
         ensures sender { sends self.new
             ≡ sent_with OUT_BATCH (sends self.old).known_gone word (sends self.old) }
         ensures receiver { takes self.new ≡ takes self.old }
-        ensures appended { sent_of self.new ≡ sent_of self.old ++ word ∷ [] }
-        ensures sent { (sent_of self.new ≡ sent_of self.old ++ word ∷ [])
-            ⊎ ((gone_of self.old ≡ true) × (sent_of self.new ≡ sent_of self.old)) }
-        ensures spare { (spare_of self.old ≤ spare_of self.new + 1) ⊎ (gone_of self.new ≡ true) }
-        ensures asks { asks_of self.new ≡ asks_of self.old }
-        ensures last { last_of self.new ≡ last_of self.old }
-        ensures made { made_of self.new ≡ made_of self.old }
-        ensures taken { taken_of self.new ≡ taken_of self.old }
-        ensures stays_gone { gone_of self.old ≡ true → gone_of self.new ≡ true }
+        ensures sent { IsSent (word ∷ []) (shown_of self.old) (shown_of self.new) }
     {
         if self.sender.knows_gone() {
             self.sender.discard(word);
@@ -242,12 +218,7 @@ impl<const OUT: usize, const OUT_BATCH: usize, const BACK: usize, const BACK_BAT
             × ((sends self.new).published ≡ length (sends self.new).sent) }
         ensures closed { (result ≡ Closed) ↔ ((word_taken result ≡ [])
             × ((takes self.new).known_closed ≡ true) × IsEmpty (takes self.new)) }
-        ensures taken { taken_of self.new ≡ taken_of self.old ++ word_taken result }
-        ensures asks { asks_of self.new ≡ next_count (asks_of self.old) }
-        ensures last { last_of self.new ≡ Take result }
-        ensures made { made_of self.new ≡ made_of self.old }
-        ensures sent { sent_of self.new ≡ sent_of self.old }
-        ensures stays_gone { gone_of self.old ≡ true → gone_of self.new ≡ true }
+        ensures asked { IsAsked (Take result) (shown_of self.old) (shown_of self.new) }
     {
         let answer = self.answer();
         self.asks = self.asks.saturating_add(1);

@@ -1,4 +1,5 @@
-ghost use Rattle.std.specs.Prelude.{◌≡◌, ◌+◌, ◌^◌, ◌<◌, ◌≤◌, length};
+ghost use Rattle.std.specs.Prelude.{◌≡◌, ◌+◌, ◌^◌, ◌<◌};
+ghost use Rattle.machine.specs.Link.{SentBelow};
 ghost use Rattle.acks.specs.Ends.{IsNew, made_of, done_made};
 
 use crate::{LeadDone, LeadEnds, TrailDone, TrailEnds, ends, rejoin_ends};
@@ -41,8 +42,8 @@ fn a_part_batch_goes_through_before_a_look(rt: HostRuntime) -> Result<(), Fail> 
 // Whether so many words went off, each after a question for room.
 fn send_many<L: Link>(link: &mut L, count: u64) -> bool
     requires small { count < 2 ^ 44 }
-    requires none { length (L.sent link.old) ≡ 0 }
-    ensures { L.made link.new ≡ L.made link.old }
+    requires none { SentBelow 1 (L.shows link.old) }
+    ensures { (L.shows link.new).made ≡ (L.shows link.old).made }
 {
     for value in 0..count {
         if !link.room(1) {
@@ -65,9 +66,10 @@ fn words_for_a_side_that_has_gone_are_dropped(rt: HostRuntime) -> Result<(), Fai
 }
 
 fn send_waiting<L: Link, R: Wait>(rt: &R, link: &mut L, value: u64)
-    requires small { (length (L.sent link.old) ≤ value) × (value < 2 ^ 44) }
-    ensures grown { length (L.sent link.new) ≤ value + 1 }
-    ensures made { L.made link.new ≡ L.made link.old }
+    requires few { SentBelow (value + 1) (L.shows link.old) }
+    requires small { value < 2 ^ 44 }
+    ensures grown { SentBelow (value + 2) (L.shows link.new) }
+    ensures made { (L.shows link.new).made ≡ (L.shows link.old).made }
 {
     for _ in rt.forever() {
         if link.room(18) {
@@ -80,8 +82,9 @@ fn send_waiting<L: Link, R: Wait>(rt: &R, link: &mut L, value: u64)
 }
 
 fn take_waiting<L: Link, R: Wait>(rt: &R, link: &mut L) -> Taken
-    ensures sent { L.sent link.new ≡ L.sent link.old }
-    ensures made { L.made link.new ≡ L.made link.old }
+    ensures sent { (L.shows link.new).sent ≡ (L.shows link.old).sent }
+    ensures dropped { (L.shows link.new).dropped ≡ (L.shows link.old).dropped }
+    ensures made { (L.shows link.new).made ≡ (L.shows link.old).made }
 {
     for _ in rt.forever() {
         let taken = link.take();

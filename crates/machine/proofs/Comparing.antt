@@ -2,12 +2,13 @@
 use Rattle.std.proofs.Common.{◌≡◌, ℕ, suc, ◌+◌, ◌<◌, true, false, List, [], ◌∷◌, ◌++◌, length, map, drop, get_or, ◌≤◌, cond, nat_eq, nat_lt, sym, ap, ◌∙◌, arith, add-one, drop-cons}
 use Rattle.std.proofs.lemmas.List.{length-map}
 use Rattle.std.proofs.lemmas.Bool.{le-ltb, not-false, not-true}
-use Rattle.mid_code.specs.Machine.{passed, register}
+use Rattle.mid_code.specs.Machine.{register}
+use Rattle.world.specs.Standing.{passed_on as passes}
 use Rattle.std.specs.Prelude.{not}
 use Rattle.std.proofs.Math.ListN.{get_or-map}
 use Rattle.verdicts.specs.declared.thread_end.ThreadEnd.TheVariants.{Echo}
 use Rattle.machine.specs.Side.{SideState, Outcome, Ended, Went}
-use Rattle.machine.specs.Steps.{operands}
+use Rattle.machine.specs.Steps.{holds, operands}
 use Rattle.machine.specs.Leading.{compared, heard_by}
 
 -- the word at a place, and the side's own there
@@ -32,9 +33,9 @@ module _ (words own : List ℕ) (s : SideState) (i word mine : ℕ) (at : drop i
   agrees h = judged ∙ ap (λ b. cond b (compared (drop (i + 1) words) (drop (i + 1) own) s) (Ended (Echo word mine))) (not-false (nat_eq word mine) h)
 
 -- where the side stands when all agree depends on its machine alone
-pub compared_same : (words own : List ℕ) (s t : SideState) → s.machine ≡ t.machine → compared words own s ≡ compared words own t
-compared_same [] own s t same = ap (λ m. Went (record { machine = passed m; heard = [] })) same
-compared_same (w ∷ ws) [] s t same = ap (λ m. Went (record { machine = passed m; heard = [] })) same
+pub compared_same : (words own : List ℕ) (s t : SideState) → s.at ≡ t.at → compared words own s ≡ compared words own t
+compared_same [] own s t same = ap (λ m. Went (record { at = passes m; heard = [] })) same
+compared_same (w ∷ ws) [] s t same = ap (λ m. Went (record { at = passes m; heard = [] })) same
 compared_same (w ∷ ws) (o ∷ os) s t same = ap (λ next. cond (nat_eq w o) next (Ended (Echo w o))) (compared_same ws os s t same)
 
 -- once all are there, they are compared
@@ -43,13 +44,13 @@ heard_all words own s all = ap (λ b. heard_by b words own s) (le-ltb (length wo
 
 -- the same as the code finds it: `t` is the side with the acknowledgement added
 pub heard_to : (f : ℕ → ℕ) (args given : List ℕ) (s t : SideState) (word : ℕ) (words : List ℕ) (outcome : Outcome) →
-    t.machine ≡ s.machine → t.heard ≡ s.heard ++ word ∷ [] → words ≡ t.heard → given ≡ args → length args ≤ length words →
+    t.at ≡ s.at → t.heard ≡ s.heard ++ word ∷ [] → words ≡ t.heard → given ≡ args → length args ≤ length words →
     compared words (map f (operands t given)) t ≡ outcome →
     heard_by (nat_lt (length (s.heard ++ word ∷ [])) (length (map f (operands s args)))) (s.heard ++ word ∷ []) (map f (operands s args)) s ≡ outcome
 heard_to f args given s t word words outcome machine heard words_are given_is all h =
     let own = map f (operands s args) in
     let mine = s.heard ++ word ∷ [] in
     let e : words ≡ mine = words_are ∙ heard in
-    let count : length own ≤ length mine = omega (arith, length-map (operands s args) f, length-map args (register s.machine), ap length e) in
-    let same : own ≡ map f (operands t given) = ap (λ m. map f (map (register m) args)) (sym machine) ∙ ap (λ a. map f (map (register t.machine) a)) (sym given_is) in
+    let count : length own ≤ length mine = omega (arith, length-map (operands s args) f, length-map args (holds s), ap length e) in
+    let same : own ≡ map f (operands t given) = ap (λ m. map f (map (register m.machine.top) args)) (sym machine) ∙ ap (λ a. map f (operands t a)) (sym given_is) in
     heard_all mine own s count ∙ compared_same mine own s t (sym machine) ∙ ap (λ ws. compared ws own t) (sym e) ∙ ap (λ os. compared words os t) same ∙ h

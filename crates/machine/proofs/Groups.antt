@@ -1,34 +1,50 @@
 -- What the instructions of a version are like: one case for each instruction of middle code.
-use Rattle.std.proofs.Common.{lit≤, ◌≡◌, ℕ, zero, suc, ◌-◌, ◌<◌, ◌≤◌, List, [], ◌∷◌, length, Some, subst}
+use Rattle.std.proofs.Common.{lit≤, ◌≡◌, ℕ, zero, suc, ◌-◌, ◌<◌, ◌≤◌, Bool, true, List, [], ◌∷◌, length, Some, subst}
 use Rattle.std.specs.Prelude.{All, slice_get}
 use Rattle.std.proofs.lemmas.List.Elements.{All-cons, All-nil}
+use Rattle.srmt_base.specs.declared.request_kind.RequestKind.{RequestKind}
+use Rattle.srmt_base.specs.declared.request_kind.RequestKind.TheVariants.{Put as AsksPut, Exit as AsksExit}
 use Rattle.srmt_base.specs.declared.side.Side.{Side}
 use Rattle.srmt_base.specs.declared.side.Side.TheVariants.{Lead, Trail}
+use Rattle.mid_code.specs.declared.class.Shared.{Shared}
 use Rattle.mid_code.specs.declared.mid.Mid.{Mid}
 use Rattle.mid_code.specs.declared.mid.Mid.TheVariants.{Const, Conv, Put, Exit}
 use Rattle.mid_code.specs.declared.program.RegisterKind.{RegisterKind}
-use Rattle.mid_code.specs.declared.version.Asks.{Asks}
-use Rattle.mid_code.specs.declared.version.Asks.TheVariants.{Put as AskPut, Exit as AskExit}
+use Rattle.mid_code.specs.declared.version.Operands.TheVariants.{One}
 use Rattle.mid_code.specs.declared.version.VersionOp.{VersionOp}
 use Rattle.mid_code.specs.declared.version.VersionOp.TheVariants.{Copied, Ask, Await, Act, Check, Ack, End}
-use Rattle.mid_code.specs.Classes.{site_of}
-use Rattle.mid_code.specs.Versions.{leading_ops, trailing_ops}
-use Rattle.machine.specs.Steps.{IsPerformed}
-use Rattle.machine.proofs.FirstForm.{AreFit, IsFinal}
+use Rattle.std.specs.Prelude.{None}
+use Rattle.mid_code.specs.Ways.{is_final}
+use Rattle.mid_code.specs.Classes.{site_of, sharing_of, class_of}
+use Rattle.mid_code.specs.Versions.{Table, leading, trailing, operands_list, group_of}
+use Rattle.mid_code.proofs.VersionGroups.{IsSized, leading_sized, trailing_sized}
+use Rattle.machine.specs.Performed.{IsPerformed}
+use Rattle.machine.proofs.FirstForm.{AreFit}
+
+-- the table by which a side's version is made
+abbrev pub table_of : Side → Table
+table_of Lead = leading
+table_of Trail = trailing
+
+pub table_sized : (side : Side) → IsSized (table_of side)
+table_sized Lead = leading_sized
+table_sized Trail = trailing_sized
+
+-- a kind of request that is asked yet
+abbrev pub IsServed : RequestKind → Type 0
+IsServed AsksPut = Unit {0}
+IsServed AsksExit = Unit {0}
+IsServed _ = ⊥
 
 -- the side ends with this instruction, unless it ends before
-abbrev pub acts_last : Asks → Type 0
-acts_last AskPut = ⊥
-acts_last AskExit = Unit {0}
+abbrev pub acts_last : RequestKind → Type 0
+acts_last AsksExit = Unit {0}
+acts_last _ = ⊥
 
 abbrev pub IsLast : VersionOp → Type 0
-IsLast (Copied mid) = ⊥
-IsLast (Ask site args) = ⊥
-IsLast (Await site args) = ⊥
-IsLast (Act site asks args) = acts_last asks
-IsLast (Check site source) = ⊥
-IsLast (Ack site args) = ⊥
+IsLast (Act site request target function args) = acts_last request
 IsLast (End source) = Unit {0}
+IsLast _ = ⊥
 
 -- an instruction that both sides perform: its registers are there, and its value is small
 pub record CopiedFits (kinds : List RegisterKind) (mid : Mid) : Type 0 where
@@ -41,26 +57,21 @@ pub record ArgsFit (kinds : List RegisterKind) (args : List ℕ) : Type 0 where
   pub few : length args ≤ 17
   pub each : All (λ a. a < length kinds) args
 
+pub record ActFits (kinds : List RegisterKind) (request : RequestKind) (args : List ℕ) : Type 0 where
+  pub args_fit : ArgsFit kinds args
+  pub served : IsServed request
+
 -- an instruction of a side's version; those of the other side never stand there
 abbrev pub OpFits : Side → List RegisterKind → VersionOp → Type 0
 OpFits side kinds (Copied mid) = CopiedFits kinds mid
-OpFits Lead kinds (Ask site args) = ArgsFit kinds args
-OpFits Lead kinds (Await site args) = ArgsFit kinds args
-OpFits Lead kinds (Act site asks args) = ArgsFit kinds args
-OpFits Lead kinds (Check site source) = ⊥
-OpFits Lead kinds (Ack site args) = ⊥
-OpFits Lead kinds (End source) = ⊥
-OpFits Trail kinds (Ask site args) = ⊥
-OpFits Trail kinds (Await site args) = ⊥
-OpFits Trail kinds (Act site asks args) = ⊥
+OpFits Lead kinds (Ask site args) = ArgsFit kinds (operands_list args)
+OpFits Lead kinds (Await site args) = ArgsFit kinds (operands_list args)
+OpFits Lead kinds (Act site request target function args) = ActFits kinds request (operands_list args)
+OpFits Lead kinds _ = ⊥
 OpFits Trail kinds (Check site source) = source < length kinds
-OpFits Trail kinds (Ack site args) = ArgsFit kinds args
+OpFits Trail kinds (Ack site args) = ArgsFit kinds (operands_list args)
 OpFits Trail kinds (End source) = source < length kinds
-
--- what takes the place of an instruction, in a side's version
-abbrev pub ops_of : Side → ℕ → Mid → List VersionOp
-ops_of Lead = leading_ops
-ops_of Trail = trailing_ops
+OpFits Trail kinds _ = ⊥
 
 -- all of a list, by recursion
 abbrev pub Each : (VersionOp → Type 0) → List VersionOp → Type 0
@@ -72,13 +83,10 @@ each_at P [] k op all at = absurd (cc)
 each_at P (x ∷ xs) zero op all at = let same : x ≡ op = cc in subst P same all.0
 each_at P (x ∷ xs) (suc k) op all at = each_at P xs k op all.1 at
 
--- the group of an instruction: from one to three, each of them fit; that of a final one ends with
--- one after which the side ends
+-- the group of an instruction: each of it fits; that of a final one ends with one after which the side ends
 pub record GroupFits (side : Side) (kinds : List RegisterKind) (mid : Mid) (group : List VersionOp) : Type 0 where
-  pub some : 1 ≤ length group
-  pub few : length group ≤ 3
   pub each : Each (OpFits side kinds) group
-  pub last : IsFinal mid → (op : VersionOp) → slice_get group (length group - 1) ≡ Some op → IsLast op
+  pub last : is_final mid ≡ true → (op : VersionOp) → slice_get group (length group - 1) ≡ Some op → IsLast op
 
 one_arg : (kinds : List RegisterKind) (source : ℕ) → source < length kinds → ArgsFit kinds (source ∷ [])
 one_arg kinds source fit = record {
@@ -87,28 +95,33 @@ one_arg kinds source fit = record {
   each = All-cons (λ a. a < length kinds) source [] fit (All-nil (λ a. a < length kinds));
 }
 
-copied_group : (side : Side) (kinds : List RegisterKind) (mid : Mid) → AreFit kinds mid → (IsFinal mid → ⊥) → IsPerformed (length kinds) mid → GroupFits side kinds mid (Copied mid ∷ [])
-copied_group side kinds mid fit not_final performed = record {
-  some = lit≤ tt;
-  few = lit≤ tt;
-  each = (record { fit = fit; performed = performed }, tt);
-  last = λ final op at. absurd (not_final final);
-}
+module _ (mains n place : ℕ) (shared : Shared) (moved : ℕ → ℕ) where
+  -- the group that stands for an instruction
+  abbrev pub group_for : Side → Mid → List VersionOp
+  group_for side mid = group_of (table_of side) moved place (class_of n (sharing_of mains shared place mid)) mid
 
-pub group_fits : (side : Side) (kinds : List RegisterKind) (site : ℕ) (mid : Mid) → AreFit kinds mid → GroupFits side kinds mid (ops_of side site mid)
-group_fits Lead kinds site (Const target value) fit = copied_group Lead kinds (Const target value) fit (λ h. h) fit.0
-group_fits Lead kinds site (Conv from to target source) fit = copied_group Lead kinds (Conv from to target source) fit (λ h. h) fit
-group_fits Lead kinds site (Put source) fit =
-    let args = one_arg kinds source fit in
-    record { some = lit≤ tt; few = lit≤ tt; each = (args, (args, (args, tt))); last = λ final op at. absurd final }
-group_fits Lead kinds site (Exit source) fit =
-    let args = one_arg kinds source fit in
-    record { some = lit≤ tt; few = lit≤ tt; each = (args, (args, (args, tt))); last = λ final op at. let same : Act (site_of site) AskExit (source ∷ []) ≡ op = cc in subst IsLast same tt }
-group_fits Lead kinds site _ fit = absurd fit
-group_fits Trail kinds site (Const target value) fit = copied_group Trail kinds (Const target value) fit (λ h. h) fit.0
-group_fits Trail kinds site (Conv from to target source) fit = copied_group Trail kinds (Conv from to target source) fit (λ h. h) fit
-group_fits Trail kinds site (Put source) fit =
-    record { some = lit≤ tt; few = lit≤ tt; each = (fit, (one_arg kinds source fit, tt)); last = λ final op at. absurd final }
-group_fits Trail kinds site (Exit source) fit =
-    record { some = lit≤ tt; few = lit≤ tt; each = (fit, (one_arg kinds source fit, (fit, tt))); last = λ final op at. let same : End source ≡ op = cc in subst IsLast same tt }
-group_fits Trail kinds site _ fit = absurd fit
+  copied_group : (side : Side) (kinds : List RegisterKind) (mid : Mid) → AreFit kinds mid → (is_final mid ≡ true → ⊥) → IsPerformed (length kinds) mid → GroupFits side kinds mid (Copied mid ∷ [])
+  copied_group side kinds mid fit not_final performed = record {
+    each = (record { fit = fit; performed = performed }, tt);
+    last = λ final op at. absurd (not_final final);
+  }
+
+  pub group_fits : (side : Side) (kinds : List RegisterKind) (mid : Mid) → AreFit kinds mid → GroupFits side kinds mid (group_for side mid)
+  group_fits Lead kinds (Const target value) fit = copied_group Lead kinds (Const target value) fit (λ h. cc) fit.0
+  group_fits Lead kinds (Conv from to target source) fit = copied_group Lead kinds (Conv from to target source) fit (λ h. cc) fit
+  group_fits Lead kinds (Put source) fit =
+      let args = one_arg kinds source fit in
+      record { each = (args, (args, (record { args_fit = args; served = tt }, tt))); last = λ final op at. absurd (cc) }
+  group_fits Lead kinds (Exit source) fit =
+      let args = one_arg kinds source fit in
+      record {
+        each = (args, (args, (record { args_fit = args; served = tt }, tt)));
+        last = λ final op at. let same : Act (site_of n) AsksExit None None (One source) ≡ op = cc in subst IsLast same tt;
+      }
+  group_fits Lead kinds _ fit = absurd fit
+  group_fits Trail kinds (Const target value) fit = copied_group Trail kinds (Const target value) fit (λ h. cc) fit.0
+  group_fits Trail kinds (Conv from to target source) fit = copied_group Trail kinds (Conv from to target source) fit (λ h. cc) fit
+  group_fits Trail kinds (Put source) fit = record { each = (fit, (one_arg kinds source fit, tt)); last = λ final op at. absurd (cc) }
+  group_fits Trail kinds (Exit source) fit =
+      record { each = (fit, (one_arg kinds source fit, (fit, tt))); last = λ final op at. let same : End source ≡ op = cc in subst IsLast same tt }
+  group_fits Trail kinds _ fit = absurd fit

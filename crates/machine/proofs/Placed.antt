@@ -1,185 +1,150 @@
 -- Where an instruction of a version stands: it fits, and another follows it, unless it is the last.
-use Rattle.std.proofs.Common.{◌≡◌, ℕ, zero, suc, ◌+◌, ◌-◌, ◌*◌, ◌<◌, ◌≤◌, ◌^◌, List, [], ◌∷◌, ◌++◌, length, Option, Some, None, refl, sym, ap, ◌∙◌, arith, inl, inr, length-append}
+use Rattle.std.proofs.Common.{◌≡◌, ℕ, zero, suc, ◌+◌, ◌-◌, ◌*◌, ◌<◌, ◌≤◌, ◌^◌, Bool, true, false, List, [], ◌∷◌, length, Option, Some, None, refl, sym, ap, ◌∙◌, subst, arith, inl, inr}
 use Rattle.std.specs.Prelude.{slice_get, option_and_then}
 use Rattle.std.proofs.lemmas.Bool.{cases_lt}
+use Rattle.std.proofs.lemmas.List.{length-map}
 use Rattle.std.proofs.lemmas.Option.{slice_get_within}
 use Rattle.srmt_base.specs.declared.side.Side.{Side}
 use Rattle.srmt_base.specs.declared.side.Side.TheVariants.{Lead, Trail}
-use Rattle.mid_code.specs.declared.mid.Mid.{Mid}
-use Rattle.mid_code.specs.declared.program.RegisterKind.{RegisterKind}
+use Rattle.mid_code.specs.declared.class.Class.{Class}
+use Rattle.mid_code.specs.declared.class.Shared.{Shared}
 use Rattle.mid_code.specs.declared.program.MidLine.{MidLine}
 use Rattle.mid_code.specs.declared.program.MidFunction.{MidFunction}
-use Rattle.mid_code.specs.declared.program.MidProgram.{MidProgram}
 use Rattle.mid_code.specs.declared.version.VersionOp.{VersionOp}
 use Rattle.mid_code.specs.declared.version.VersionLine.{VersionLine}
 use Rattle.mid_code.specs.declared.version.Version.{Version}
 use Rattle.mid_code.specs.Program.{function_at}
-use Rattle.mid_code.specs.Classes.{sites_of, site_count, protected_functions}
+use Rattle.mid_code.specs.Ways.{is_final}
+use Rattle.mid_code.specs.Classes.{SharedProgram, Sharing, sharings, sites_of, class_of, classes_from, protected_functions}
 use Rattle.mid_code.specs.Pairs.{HasSites}
-use Rattle.mid_code.specs.Versions.{with_line, version_code, versions_from, version_at}
-use Rattle.mid_code.proofs.Fetching.{get_front, get_behind, group_of}
+use Rattle.mid_code.specs.Versions.{Table, size_of, place_in, group_of, version_of, versions_from, versions_of as table_versions, version_at}
+use Rattle.mid_code.specs.CodeLaws.{StandsIn}
+use Rattle.mid_code.proofs.Flowing.{followed}
+use Rattle.mid_code.proofs.Keeping.{keeps}
+use Rattle.mid_code.proofs.Naming.{function_kept}
 use Rattle.mid_code.proofs.Values.{one_within}
-use Rattle.world.proofs.Plain.{protected_found}
+use Rattle.mid_code.proofs.VersionGroups.{get-with_line, length-lines_at, length-group_of, lines_at, place_in-next, place_in-few, length-groups_from, stands_in, some_size, IsProtected, classes_in, class_at, class_at-found, version_place, version_of-found, fetch}
+use Rattle.world.proofs.Plain.{protected_found, is_protected}
 use Rattle.machine.specs.Steps.{versions_of}
-use Rattle.machine.proofs.FirstForm.{AreFit, IsFinal, first_function}
-use Rattle.machine.proofs.Groups.{IsLast, OpFits, GroupFits, each_at, ops_of, group_fits}
+use Rattle.machine.proofs.FirstForm.{line_fits}
+use Rattle.machine.proofs.Groups.{table_of, table_sized, IsLast, OpFits, each_at, group_fits}
 
--- the instructions of a group, without their line
-pub length-with_line : (line : ℕ) (ops : List VersionOp) → length (with_line line ops) ≡ length ops
-length-with_line line [] = refl
-length-with_line line (op ∷ ops) = ap suc (length-with_line line ops)
-
-pub get-with_line : (line : ℕ) (ops : List VersionOp) (k : ℕ) (l : VersionLine) → slice_get (with_line line ops) k ≡ Some l → slice_get ops k ≡ Some l.op
-get-with_line line [] k l at = absurd (cc)
-get-with_line line (op ∷ ops) zero l at = let same : record { line = line; op = op } ≡ l = cc in ap (λ x. Some x.op) same
-get-with_line line (op ∷ ops) (suc k) l at = get-with_line line ops k l at
-
--- each instruction of a function is fit, and its last is final
-abbrev pub AllFit : List RegisterKind → List MidLine → Type 0
-AllFit kinds [] = Unit {0}
-AllFit kinds (l ∷ ls) = AreFit kinds l.mid × AllFit kinds ls
-
-abbrev pub EndsFinal : List MidLine → Type 0
-EndsFinal [] = Unit {0}
-EndsFinal (l ∷ []) = IsFinal l.mid
-EndsFinal (l ∷ m ∷ ls) = EndsFinal (m ∷ ls)
-
-all_fit : (kinds : List RegisterKind) (code : List MidLine) → ((place : ℕ) (l : MidLine) → slice_get code place ≡ Some l → AreFit kinds l.mid) → AllFit kinds code
-all_fit kinds [] each = tt
-all_fit kinds (l ∷ ls) each = (each 0 l refl, all_fit kinds ls (λ place m at. each (suc place) m at))
-
-ends_final : (code : List MidLine) → ((l : MidLine) → slice_get code (length code - 1) ≡ Some l → IsFinal l.mid) → EndsFinal code
-ends_final [] last = tt
-ends_final (l ∷ []) last = last l refl
-ends_final (l ∷ m ∷ ls) last =
-    ends_final (m ∷ ls) (λ x at. last x (let e : length (l ∷ m ∷ ls) - 1 ≡ suc (length (m ∷ ls) - 1) = omega arith in ap (slice_get (l ∷ m ∷ ls)) e ∙ at))
-
--- the next place is one of the version's
-abbrev pub HasNext : List VersionLine → ℕ → Type 0
-HasNext code place = (next : VersionLine) × (slice_get code (place + 1) ≡ Some next)
-
--- an instruction at a place of a version, and what follows it
-abbrev pub StandsIn : Side → List RegisterKind → List VersionLine → ℕ → VersionLine → Type 0
-StandsIn side kinds code place l = OpFits side kinds l.op × ((IsLast l.op → ⊥) → HasNext code place)
-
-module _ (mains : ℕ) (side : Side) (kinds : List RegisterKind) where
-  group_at : (site : ℕ) (x : MidLine) → AreFit kinds x.mid → GroupFits side kinds x.mid (ops_of side site x.mid)
-  group_at site x fit = group_fits side kinds site x.mid fit
-
-  long_group : (site : ℕ) (x : MidLine) → AreFit kinds x.mid → 1 ≤ length (group_of (ops_of side) site x)
-  long_group site x fit = rw length-with_line ((group_at site x fit).some)
-
-  -- the first of a version
-  first_behind : (site : ℕ) (y : MidLine) (ys : List MidLine) → AllFit kinds (y ∷ ys) → (next : VersionLine) × (slice_get (version_code mains (ops_of side) site (y ∷ ys)) 0 ≡ Some next)
-  first_behind site y ys fit =
-      let here = one_within (group_of (ops_of side) site y) 0 (omega (arith, long_group site y fit.0)) in
-      (here.0, get_front (group_of (ops_of side) site y) (version_code mains (ops_of side) (site + sites_of mains y.mid) ys) 0 (omega (arith, long_group site y fit.0)) ∙ here.1)
-
-  -- what follows the last of a group
-  next_behind : (site : ℕ) (x : MidLine) (xs : List MidLine) (i : ℕ) (l : VersionLine) → AllFit kinds (x ∷ xs) → EndsFinal (x ∷ xs) → i + 1 ≡ length (group_of (ops_of side) site x) → slice_get (ops_of side site x.mid) i ≡ Some l.op → (IsLast l.op → ⊥) → HasNext (version_code mains (ops_of side) site (x ∷ xs)) i
-  next_behind site x [] i l fit final ends at not_last =
-      let here : length (ops_of side site x.mid) - 1 ≡ i = omega (arith, length-with_line x.line (ops_of side site x.mid)) in
-      absurd (not_last ((group_at site x fit.0).last final l.op (ap (slice_get (ops_of side site x.mid)) here ∙ at)))
-  next_behind site x (y ∷ ys) i l fit final ends at not_last =
-      let front = group_of (ops_of side) site x in
-      let rest = version_code mains (ops_of side) (site + sites_of mains x.mid) (y ∷ ys) in
-      let first = first_behind (site + sites_of mains x.mid) y ys fit.1 in
-      let e : i + 1 ≡ length front + 0 = omega arith in
-      (first.0, ap (slice_get (front ++ rest)) e ∙ get_behind front rest 0 ∙ first.1)
-
-  in_front : (site : ℕ) (x : MidLine) (xs : List MidLine) (i : ℕ) (l : VersionLine) → AllFit kinds (x ∷ xs) → EndsFinal (x ∷ xs) → i < length (group_of (ops_of side) site x) → slice_get (group_of (ops_of side) site x) i ≡ Some l → StandsIn side kinds (version_code mains (ops_of side) site (x ∷ xs)) i l
-  in_front site x xs i l fit final within at =
-      let front = group_of (ops_of side) site x in
-      let rest = version_code mains (ops_of side) (site + sites_of mains x.mid) xs in
-      let op : slice_get (ops_of side site x.mid) i ≡ Some l.op = get-with_line x.line (ops_of side site x.mid) i l at in
-      let good : OpFits side kinds l.op = each_at (OpFits side kinds) (ops_of side site x.mid) i l.op (group_at site x fit.0).each op in
-      let next : (IsLast l.op → ⊥) → HasNext (version_code mains (ops_of side) site (x ∷ xs)) i = λ not_last.
-      elim (cases_lt (i + 1) (length front)) as (λ _. HasNext (version_code mains (ops_of side) site (x ∷ xs)) i) [
-        | inl more ↦ let n = one_within front (i + 1) more in (n.0, get_front front rest (i + 1) more ∙ n.1)
-        | inr none ↦ next_behind site x xs i l fit final (omega arith) op not_last
-      ] in
-      (good, next)
-
-  final_rest : (x : MidLine) (xs : List MidLine) → EndsFinal (x ∷ xs) → EndsFinal xs
-  final_rest x [] final = tt
-  final_rest x (y ∷ ys) final = final
-
-  further : (front rest : List VersionLine) (j : ℕ) (i : ℕ) → i ≡ length front + j → HasNext rest j → HasNext (front ++ rest) i
-  further front rest j i e next =
-      let more : i + 1 ≡ length front + (j + 1) = omega arith in
-      (next.0, ap (slice_get (front ++ rest)) more ∙ get_behind front rest (j + 1) ∙ next.1)
-
-  pub stands_in : (site : ℕ) (code : List MidLine) (i : ℕ) (l : VersionLine) → AllFit kinds code → EndsFinal code → slice_get (version_code mains (ops_of side) site code) i ≡ Some l → StandsIn side kinds (version_code mains (ops_of side) site code) i l
-  stands_in site [] i l fit final at = absurd (cc)
-  stands_in site (x ∷ xs) i l fit final at =
-      let front = group_of (ops_of side) site x in
-      let rest = version_code mains (ops_of side) (site + sites_of mains x.mid) xs in
-      elim (cases_lt i (length front)) as (λ _. StandsIn side kinds (version_code mains (ops_of side) site (x ∷ xs)) i l) [
-        | inl within ↦ in_front site x xs i l fit final within (sym (get_front front rest i within) ∙ at)
-        | inr past ↦
-            let e : i ≡ length front + (i - length front) = omega arith in
-            let there : slice_get rest (i - length front) ≡ Some l = sym (get_behind front rest (i - length front)) ∙ ap (slice_get (front ++ rest)) (sym e) ∙ at in
-            let ih = stands_in (site + sites_of mains x.mid) xs (i - length front) l fit.1 (final_rest x xs final) there in
-            (ih.0, λ not_last. further front rest (i - length front) i e (ih.1 not_last))
-      ]
-
-  -- no version is long
-  pub long_version : (site : ℕ) (code : List MidLine) → AllFit kinds code → length (version_code mains (ops_of side) site code) ≤ 3 * length code
-  long_version site [] fit = omega arith
-  long_version site (x ∷ xs) fit =
-      omega (arith, length-append (group_of (ops_of side) site x) (version_code mains (ops_of side) (site + sites_of mains x.mid) xs), length-with_line x.line (ops_of side site x.mid), (group_at site x fit.0).few, long_version (site + sites_of mains x.mid) xs fit.1)
-
--- the version of a function, by its function
-record VersionOf (mains : ℕ) (ops : ℕ → Mid → List VersionOp) (functions : List MidFunction) (index : ℕ) (v : Version) : Type 0 where
-  pub function : MidFunction
-  pub site : ℕ
-  pub found : slice_get functions index ≡ Some function
-  pub code_is : v.code ≡ version_code mains ops site function.code
-
-version_found : (mains : ℕ) (ops : ℕ → Mid → List VersionOp) (site : ℕ) (functions : List MidFunction) (index : ℕ) (v : Version) → slice_get (versions_from mains ops site functions) index ≡ Some v → VersionOf mains ops functions index v
-version_found mains ops site [] index v at = absurd (cc)
-version_found mains ops site (f ∷ fs) zero v at =
-    let same : record { code = version_code mains ops site f.code } ≡ v = cc in
-    record { function = f; site = site; found = refl; code_is = ap (λ w. w.code) (sym same) }
-version_found mains ops site (f ∷ fs) (suc index) v at =
-    let ih = version_found mains ops (site + site_count mains f.code) fs index v at in
-    record { function = ih.function; site = ih.site; found = ih.found; code_is = ih.code_is }
-
-pub versions_so : (side : Side) (program : MidProgram) → versions_of side program ≡ versions_from program.main_functions (ops_of side) 1 (protected_functions program)
+pub versions_so : (side : Side) (program : SharedProgram) → versions_of side program ≡ table_versions (table_of side) program
 versions_so Lead program = refl
 versions_so Trail program = refl
 
--- an instruction at a place of a side's version
-pub record Placed (side : Side) (program : MidProgram) (function place : ℕ) (l : VersionLine) : Type 0 where
+-- as many classes as instructions
+length-sharings : (mains : ℕ) (shared : Shared) (place : ℕ) (code : List MidLine) → length (sharings mains shared place code) ≡ length code
+length-sharings mains shared place [] = refl
+length-sharings mains shared place (l ∷ ls) = ap suc (length-sharings mains shared (place + 1) ls)
+
+length-classes : (site : ℕ) (ss : List Sharing) → length (classes_from site ss) ≡ length ss
+length-classes site [] = refl
+length-classes site (s ∷ ss) = ap suc (length-classes (site + sites_of s) ss)
+
+-- a version is one of a function
+version_has : (table : Table) (rows : List (List Class)) (fs : List MidFunction) (index : ℕ) (v : Version) → slice_get (versions_from table rows fs) index ≡ Some v → (f : MidFunction) × (slice_get fs index ≡ Some f)
+version_has table [] fs index v at = absurd (cc)
+version_has table (cs ∷ rest) [] index v at = absurd (cc)
+version_has table (cs ∷ rest) (f ∷ fs) zero v at = (f, refl)
+version_has table (cs ∷ rest) (f ∷ fs) (suc index) v at = version_has table rest fs index v at
+
+-- the next instruction of a side's version, and an instruction at a place of it
+abbrev pub HasNext : Side → SharedProgram → ℕ → ℕ → Type 0
+HasNext side program function place = (next : VersionLine) × (version_at (versions_of side program) function (place + 1) ≡ Some next)
+
+pub record Placed (side : Side) (program : SharedProgram) (function place : ℕ) (l : VersionLine) : Type 0 where
   pub code : MidFunction
-  pub found : function_at program function ≡ Some code
+  pub found : function_at program.program function ≡ Some code
   pub fits : OpFits side code.kinds l.op
-  pub small : place < 2 ^ 18
-  pub next : (IsLast l.op → ⊥) → (n : VersionLine) × (version_at (versions_of side program) function (place + 1) ≡ Some n)
+  pub small : place < 2 ^ 21
+  pub next : (IsLast l.op → ⊥) → HasNext side program function place
 
-placed_in : (side : Side) (program : MidProgram) (before place : ℕ) (l : VersionLine) (v : Version) → HasSites program → slice_get (versions_of side program) before ≡ Some v → slice_get v.code place ≡ Some l → Placed side program (suc before) place l
-placed_in side program before place l v sites at there =
-    let is = version_found program.main_functions (ops_of side) 1 (protected_functions program) before v (ap (λ vs. slice_get vs before) (sym (versions_so side program)) ∙ at) in
-    let known = protected_found program before is.function is.found in
-    let good = first_function program (suc before) is.function sites known.0 known.1 in
-    let fit = all_fit is.function.kinds is.function.code good.each in
-    let here : slice_get (version_code program.main_functions (ops_of side) is.site is.function.code) place ≡ Some l = ap (λ c. slice_get c place) (sym is.code_is) ∙ there in
-    let stands = stands_in program.main_functions side is.function.kinds is.site is.function.code place l fit (ends_final is.function.code good.last) here in
-    let within : place < length (version_code program.main_functions (ops_of side) is.site is.function.code) = slice_get_within (version_code program.main_functions (ops_of side) is.site is.function.code) place l here in
-    record {
-      code = is.function;
-      found = known.0;
-      fits = stands.0;
-      small = omega (arith, within, long_version program.main_functions side is.function.kinds is.site is.function.code fit, good.limit);
-      next = λ not_last.
-          let n = stands.1 not_last in
-          (n.0, ap (option_and_then (λ w. slice_get w.code (place + 1))) at ∙ ap (λ c. slice_get c (place + 1)) is.code_is ∙ n.1);
-    }
+module _ (side : Side) (program : SharedProgram) (sites : HasSites program) (function : ℕ) (f : MidFunction) (s : Shared) (is : IsProtected program function f s) where
+  abbrev table : Table
+  table = table_of side
 
-placed_by : (side : Side) (program : MidProgram) (before place : ℕ) (l : VersionLine) (o : Option Version) → HasSites program → slice_get (versions_of side program) before ≡ o → option_and_then (λ v. slice_get v.code place) o ≡ Some l → Placed side program (suc before) place l
-placed_by side program before place l None sites is at = absurd (cc)
-placed_by side program before place l (Some v) sites is at = placed_in side program before place l v sites is at
+  abbrev cs : List Class
+  cs = classes_in program function f s
 
-pub placed : (side : Side) (program : MidProgram) (function place : ℕ) (l : VersionLine) → HasSites program → version_at (versions_of side program) function place ≡ Some l → Placed side program function place l
+  as_many : length cs ≡ length f.code
+  as_many = length-classes _ _ ∙ length-sharings _ s 0 f.code
+
+  -- an instruction of the group that stands for the one at a place
+  pub there : (place : ℕ) (x : MidLine) (k : ℕ) → slice_get f.code place ≡ Some x → k < size_of table (class_at program function f s place x.mid) x.mid → (i : ℕ) → i ≡ version_place table program function f s place + k →
+      (l : VersionLine) × (version_at (versions_of side program) function i ≡ Some l)
+  there place x k at within i e =
+      let lines = lines_at table (version_place table program function f s) place (class_at program function f s place x.mid) x in
+      let one = one_within lines k (omega (arith, within, length-lines_at table (version_place table program function f s) place (class_at program function f s place x.mid) x (table_sized side))) in
+      (one.0, ap (λ vs. version_at vs function i) (versions_so side program) ∙ ap (version_at (table_versions table program) function) e ∙ fetch table program function f s place x k (table_sized side) is at within ∙ one.1)
+
+  module _ (place : ℕ) (l : VersionLine) (at : slice_get (version_of table cs f).code place ≡ Some l) where
+    stood : StandsIn table cs f place
+    stood = stands_in table cs f place (table_sized side) as_many (slice_get_within (version_of table cs f).code place l at)
+
+    same_class : stood.class ≡ class_at program function f s stood.place stood.line.mid
+    same_class = let both : Some stood.class ≡ Some (class_at program function f s stood.place stood.line.mid) = sym stood.at_class ∙ class_at-found program function f s stood.place stood.line stood.at in cc
+
+    within : stood.k < size_of table (class_at program function f s stood.place stood.line.mid) stood.line.mid
+    within = subst (λ c. stood.k < size_of table c stood.line.mid) same_class stood.within
+
+    abbrev group : List VersionOp
+    group = group_of table (place_in table cs f.code) stood.place (class_at program function f s stood.place stood.line.mid) stood.line.mid
+
+    op_there : slice_get group stood.k ≡ Some l.op
+    op_there =
+        get-with_line stood.line.line group stood.k l
+        (sym (ap (λ c. slice_get (lines_at table (place_in table cs f.code) stood.place c stood.line) stood.k) same_class) ∙ sym stood.instruction ∙ at)
+
+    fit : OpFits side f.kinds l.op
+    fit =
+        each_at (OpFits side f.kinds) group stood.k l.op
+        (group_fits program.program.main_functions _ stood.place s (place_in table cs f.code) side f.kinds stood.line.mid (line_fits program function f stood.place stood.line sites is.found is.protected stood.at)).each op_there
+
+    last_of_group : suc stood.k ≡ size_of table (class_at program function f s stood.place stood.line.mid) stood.line.mid → is_final stood.line.mid ≡ true → IsLast l.op
+    last_of_group e final =
+        let long : length group - 1 ≡ stood.k = omega (arith, length-group_of table (place_in table cs f.code) stood.place (class_at program function f s stood.place stood.line.mid) stood.line.mid (table_sized side), e) in
+        (group_fits program.program.main_functions _ stood.place s (place_in table cs f.code) side f.kinds stood.line.mid (line_fits program function f stood.place stood.line sites is.found is.protected stood.at)).last final l.op (ap (slice_get group) long ∙ op_there)
+
+    behind : suc stood.k ≡ size_of table (class_at program function f s stood.place stood.line.mid) stood.line.mid → is_final stood.line.mid ≡ false → HasNext side program function place
+    behind e more =
+        let here = slice_get_within f.code stood.place stood.line stood.at in
+        let next = one_within f.code (stood.place + 1) (followed program.program function f stood.place stood.line.mid (keeps program.program function stood.place f stood.line sites.valid is.found stood.at) more here) in
+        let begins = place_in-next table cs f.code stood.place (class_at program function f s stood.place stood.line.mid) stood.line (class_at-found program function f s stood.place stood.line stood.at) stood.at in
+        there (stood.place + 1) next.0 0 next.1 (omega (arith, some_size table (class_at program function f s (stood.place + 1) next.0.mid) next.0.mid (table_sized side))) (place + 1) (omega (arith, begins, stood.is, e))
+
+    next_by : (final : Bool) → is_final stood.line.mid ≡ final → (IsLast l.op → ⊥) → HasNext side program function place
+    next_by final final_is not_last =
+        elim (cases_lt (suc stood.k) (size_of table (class_at program function f s stood.place stood.line.mid) stood.line.mid)) as (λ _. HasNext side program function place) [
+          | inl inside ↦ there stood.place stood.line (suc stood.k) stood.at inside (place + 1) (omega (arith, stood.is))
+          | inr outside ↦ at_end (omega (arith, outside, within)) final final_is not_last
+        ]
+      where
+        at_end : suc stood.k ≡ size_of table (class_at program function f s stood.place stood.line.mid) stood.line.mid → (final : Bool) → is_final stood.line.mid ≡ final → (IsLast l.op → ⊥) → HasNext side program function place
+        at_end e true is not_last = absurd (not_last (last_of_group e is))
+        at_end e false is not_last = behind e is
+
+    near : place < 2 ^ 21
+    near =
+        let long = length-groups_from table (place_in table cs f.code) 0 cs f.code (table_sized side) as_many in
+        omega (arith, slice_get_within (version_of table cs f).code place l at, long, place_in-few table cs f.code (length f.code) (table_sized side), (function_kept program.program function f sites.valid is.found).limit)
+
+    pub placed_there : Placed side program function place l
+    placed_there = record { code = f; found = is.found; fits = fit; small = near; next = next_by (is_final stood.line.mid) refl }
+
+placed_in : (side : Side) (program : SharedProgram) (before place : ℕ) (l : VersionLine) (o : Option Version) → HasSites program → slice_get (versions_of side program) before ≡ o → option_and_then (λ v. slice_get v.code place) o ≡ Some l → Placed side program (suc before) place l
+placed_in side program before place l None sites at there = absurd (cc)
+placed_in side program before place l (Some v) sites at there =
+    let known : slice_get (table_versions (table_of side) program) before ≡ Some v = ap (λ vs. slice_get vs before) (sym (versions_so side program)) ∙ at in
+    let has = version_has (table_of side) _ (protected_functions program.program) before v known in
+    let found = protected_found program.program before has.0 has.1 in
+    let is = is_protected program sites (suc before) has.0 found.0 found.1 in
+    let less : suc before - 1 ≡ before = omega arith in
+    let same : v ≡ version_of (table_of side) (classes_in program (suc before) has.0 is.0) has.0 =
+    let both : Some v ≡ Some (version_of (table_of side) (classes_in program (suc before) has.0 is.0) has.0) =
+    sym known ∙ ap (slice_get (table_versions (table_of side) program)) (sym less) ∙ version_of-found (table_of side) program (suc before) has.0 is.0 is.1 in cc in
+    placed_there side program sites (suc before) has.0 is.0 is.1 place l (ap (λ w. slice_get w.code place) (sym same) ∙ there)
+
+pub placed : (side : Side) (program : SharedProgram) (function place : ℕ) (l : VersionLine) → HasSites program → version_at (versions_of side program) function place ≡ Some l → Placed side program function place l
 placed side program zero place l sites at = absurd (cc)
-placed side program (suc before) place l sites at = placed_by side program before place l (slice_get (versions_of side program) before) sites refl at
+placed side program (suc before) place l sites at = placed_in side program before place l (slice_get (versions_of side program) before) sites refl at

@@ -1,75 +1,72 @@
 -- Words that are sent one after another.
-use Rattle.std.proofs.Common.{◌≡◌, ℕ, ◌+◌, ◌<◌, ◌≤◌, Bool, true, List, [], ◌∷◌, ◌++◌, ◌⊎◌, inl, inr, refl, ap, subst, ◌∙◌, arith, length, map, take, get_or, length-append}
+use Rattle.std.proofs.Common.{◌≡◌, ℕ, ◌+◌, ◌-◌, ◌<◌, ◌≤◌, ◌^◌, Bool, true, false, List, [], ◌∷◌, ◌++◌, inl, inr, refl, sym, ap, subst, ◌∙◌, arith, length, map, take, get_or, length-append, append-nil, append_assoc}
 use Rattle.std.proofs.lemmas.List.{take_more, map-append}
-use Rattle.machine.specs.Tried.{Sends}
+use Rattle.machine.specs.Link.{Shown, HasRoom, SentBelow, kept, dropped_more, IsSent}
 
--- one word more
-pub Sends-one_more : (gone : Bool) (before words after : List ℕ) (word : ℕ) (more : List ℕ) → Sends gone before words after → (more ≡ after ++ word ∷ []) ⊎ ((gone ≡ true) × (more ≡ after)) → Sends gone before (words ++ word ∷ []) more
-Sends-one_more gone before [] after word more sent one =
-    elim one as (λ _. Sends gone before (word ∷ []) more) [
-      | inl kept ↦ inl (rw (← sent) kept)
-      | inr dropped ↦ inr (dropped.0, rw (← sent) dropped.1)
-    ]
-Sends-one_more gone before (w ∷ ws) after word more sent one =
-    elim sent as (λ _. Sends gone before (w ∷ (ws ++ word ∷ [])) more) [
-      | inl kept ↦ inl (Sends-one_more gone (before ++ w ∷ []) ws after word more kept one)
-      | inr dropped ↦ inr (dropped.0, Sends-one_more gone before ws after word more dropped.1 one)
-    ]
+pub kept_none : (gone : Bool) (sent : List ℕ) → sent ≡ kept gone sent []
+kept_none true sent = refl
+kept_none false sent = sym (append-nil sent)
 
--- a side that is gone stays gone
-pub Sends-gone : (gone now : Bool) (before words after : List ℕ) → (gone ≡ true → now ≡ true) → Sends gone before words after → Sends now before words after
-Sends-gone gone now before [] after stays sent = sent
-Sends-gone gone now before (w ∷ ws) after stays sent =
-    elim sent as (λ _. Sends now before (w ∷ ws) after) [
-      | inl kept ↦ inl (Sends-gone gone now (before ++ w ∷ []) ws after stays kept)
-      | inr dropped ↦ inr (stays dropped.0, Sends-gone gone now before ws after stays dropped.1)
-    ]
+kept_both : (gone : Bool) (sent xs ys : List ℕ) → kept gone (kept gone sent xs) ys ≡ kept gone sent (xs ++ ys)
+kept_both true sent xs ys = refl
+kept_both false sent xs ys = append_assoc sent xs ys
 
--- so many words were sent, each with room for it
-pub record SentSo (gone_before gone : Bool) (spare : ℕ) (before sent words : List ℕ) (count : ℕ) : Type 0 where
-  pub room : (18 ≤ spare + count) ⊎ (gone ≡ true)
-  pub sent_so : Sends gone before words sent
-  pub few : length sent ≤ length before + count
-  pub stays : gone_before ≡ true → gone ≡ true
+pub dropped_none : (gone : Bool) (dropped : ℕ) → dropped ≡ dropped_more gone dropped 0
+dropped_none true dropped = omega arith
+dropped_none false dropped = refl
 
-pub sent_none : (gone : Bool) (spare : ℕ) (before : List ℕ) → (18 ≤ spare) ⊎ (gone ≡ true) → SentSo gone gone spare before before [] 0
-sent_none gone spare before room = record {
-  room = elim room as (λ _. (18 ≤ spare + 0) ⊎ (gone ≡ true)) [ inl r ↦ inl (omega arith) | inr r ↦ inr r ];
-  sent_so = refl;
-  few = omega arith;
-  stays = λ h. h;
+dropped_both : (gone : Bool) (dropped a b c : ℕ) → a + b ≡ c → dropped_more gone (dropped_more gone dropped a) b ≡ dropped_more gone dropped c
+dropped_both true dropped a b c e = omega arith
+dropped_both false dropped a b c e = refl
+
+-- what is kept and dropped of these words are these words
+all_counted : (gone : Bool) (sent words : List ℕ) (dropped : ℕ) → length (kept gone sent words) + dropped_more gone dropped (length words) ≡ length sent + dropped + length words
+all_counted true sent words dropped = omega arith
+all_counted false sent words dropped = omega (arith, length-append sent words)
+
+pub sent_none : (link : Shown) → IsSent [] link link
+sent_none link = record {
+  made = refl;
+  sent = kept_none link.gone link.sent;
+  dropped = dropped_none link.gone link.dropped;
+  taken = refl;
+  spare = omega arith;
+  gone = refl;
+  asks = refl;
+  last = refl;
 }
 
--- there is room for one of them
-pub room_for_one : (gone_before gone : Bool) (spare : ℕ) (before sent words : List ℕ) (count : ℕ) → SentSo gone_before gone spare before sent words count → count < 18 → (1 ≤ spare) ⊎ (gone ≡ true)
-room_for_one gone_before gone spare before sent words count so few =
-    elim so.room as (λ _. (1 ≤ spare) ⊎ (gone ≡ true)) [ inl r ↦ inl (omega arith) | inr r ↦ inr r ]
+-- some words, and then some more
+pub sent_both : (first link after : Shown) (xs ys all : List ℕ) → xs ++ ys ≡ all → IsSent xs first link → IsSent ys link after → IsSent all first after
+sent_both first link after xs ys all e s t =
+    let both : length xs + length ys ≡ length all = sym (length-append xs ys) ∙ ap length e in
+    record {
+      made = t.made ∙ s.made;
+      sent = t.sent ∙ ap (λ g. kept g link.sent ys) s.gone ∙ ap (λ ws. kept first.gone ws ys) s.sent ∙ kept_both first.gone first.sent xs ys ∙ ap (kept first.gone first.sent) e;
+      dropped =
+          t.dropped ∙ ap (λ g. dropped_more g link.dropped (length ys)) s.gone ∙ ap (λ n. dropped_more first.gone n (length ys)) s.dropped
+          ∙ dropped_both first.gone first.dropped (length xs) (length ys) (length all) both;
+      taken = t.taken ∙ s.taken;
+      spare = omega (arith, s.spare, t.spare, both);
+      gone = t.gone ∙ s.gone;
+      asks = t.asks ∙ s.asks;
+      last = t.last ∙ s.last;
+    }
 
--- one word more, as a link sends it
-sent_next : (gone_before gone now : Bool) (spare left : ℕ) (before sent more words : List ℕ) (word count : ℕ) →
-    SentSo gone_before gone spare before sent words count →
-    (more ≡ sent ++ word ∷ []) ⊎ ((gone ≡ true) × (more ≡ sent)) → (spare ≤ left + 1) ⊎ (now ≡ true) → (gone ≡ true → now ≡ true) →
-    SentSo gone_before now left before more (words ++ word ∷ []) (count + 1)
-sent_next gone_before gone now spare left before sent more words word count so one leaves stays = record {
-  room = elim so.room as (λ _. (18 ≤ left + (count + 1)) ⊎ (now ≡ true)) [
-    | inl r ↦ elim leaves as (λ _. (18 ≤ left + (count + 1)) ⊎ (now ≡ true)) [ inl l ↦ inl (omega arith) | inr l ↦ inr l ]
-    | inr r ↦ inr (stays r)
-  ];
-  sent_so = Sends-gone gone now before (words ++ word ∷ []) more stays (Sends-one_more gone before words sent word more so.sent_so one);
-  few = elim one as (λ _. length more ≤ length before + (count + 1)) [
-    | inl kept ↦ omega (arith, ap length kept, length-append sent (word ∷ []), so.few)
-    | inr dropped ↦ omega (arith, ap length dropped.1, so.few)
-  ];
-  stays = λ h. stays (so.stays h);
-}
+module _ (first link : Shown) (words : List ℕ) (sent : IsSent words first link) where
+  -- there is room for one more
+  pub room_for_one : HasRoom 18 first → length words < 18 → HasRoom 1 link
+  room_for_one room few =
+      elim room as (λ _. HasRoom 1 link) [
+        | inl enough ↦ inl (omega (arith, sent.spare))
+        | inr gone ↦ inr (sent.gone ∙ gone)
+      ]
 
-pub sent_one : (gone_before gone now : Bool) (spare left : ℕ) (before sent more words all : List ℕ) (word count : ℕ) → words ++ word ∷ [] ≡ all →
-    SentSo gone_before gone spare before sent words count →
-    (more ≡ sent ++ word ∷ []) ⊎ ((gone ≡ true) × (more ≡ sent)) → (spare ≤ left + 1) ⊎ (now ≡ true) → (gone ≡ true → now ≡ true) →
-    SentSo gone_before now left before more all (count + 1)
-sent_one gone_before gone now spare left before sent more words all word count e so one leaves stays =
-    subst (λ (ws : List ℕ). SentSo gone_before now left before more ws (count + 1)) e (sent_next gone_before gone now spare left before sent more words word count so one leaves stays)
+  pub countable : SentBelow (2 ^ 62) first → length words ≤ 18 → SentBelow (2 ^ 63 - 1) link
+  countable below few =
+      omega (arith, ap length sent.sent, sent.dropped, all_counted first.gone first.sent words first.dropped)
 
 -- the words of one operand more
-pub words_more : (f : ℕ → ℕ) (r : ℕ → ℕ) (args : List ℕ) (i : ℕ) → i < length args → map f (map r (take (i + 1) args)) ≡ map f (map r (take i args)) ++ f (r (get_or args i 0)) ∷ []
-words_more f r args i within = ap (λ t. map f (map r t)) (take_more args i 0 within) ∙ ap (map f) (map-append r (take i args) (get_or args i 0 ∷ [])) ∙ map-append f (map r (take i args)) (r (get_or args i 0) ∷ [])
+pub words_more : (f : ℕ → ℕ) (r : ℕ → ℕ) (args : List ℕ) (i : ℕ) → i < length args → map f (map r (take i args)) ++ f (r (get_or args i 0)) ∷ [] ≡ map f (map r (take (i + 1) args))
+words_more f r args i within =
+    sym (ap (λ t. map f (map r t)) (take_more args i 0 within) ∙ ap (map f) (map-append r (take i args) (get_or args i 0 ∷ [])) ∙ map-append f (map r (take i args)) (r (get_or args i 0) ∷ []))

@@ -1,81 +1,116 @@
 -- How the try of a step went, from what the code did.
-use Rattle.std.proofs.Common.{◌≡◌, ℕ, ◌<◌, Bool, true, false, List, [], ◌∷◌, ◌++◌, length, take, cond, nat_eq, nat_lt, refl, sym, ap, ◌∙◌, subst, append-nil}
+use Rattle.std.proofs.Common.{◌≡◌, ℕ, ◌<◌, Bool, true, false, List, [], ◌∷◌, ◌++◌, length, take, Some, cond, nat_eq, nat_lt, refl, sym, ap, ◌∙◌, subst}
 use Rattle.srmt_base.specs.declared.event.Event.{Event}
-use Rattle.srmt_outside.specs.Count.{next_count}
 use Rattle.word_stream.specs.declared.request.Request.{Request}
 use Rattle.word_stream.specs.declared.request.Response.{Response}
 use Rattle.word_stream.specs.Exchange.{response_words}
 use Rattle.word_stream.proofs.Spelled.{no_words}
-use Rattle.world.specs.World.{WorldState, Asked, stopped}
-use Rattle.machine.specs.declared.link_call.Taken.TheVariants.{Word}
+use Rattle.world.specs.World.{WorldState, Over, Asked}
+use Rattle.machine.specs.declared.link_call.Taken.TheVariants.{Word, Closed as NoMore}
+use Rattle.machine.specs.declared.link_call.LastCall.{LastCall}
 use Rattle.machine.specs.declared.link_call.LastCall.TheVariants.{Room, Take}
-use Rattle.verdicts.specs.declared.thread_end.ThreadEnd.TheVariants.{Echo, WriteFault}
+use Rattle.verdicts.specs.declared.thread_end.ThreadEnd.{ThreadEnd}
+use Rattle.verdicts.specs.declared.thread_end.ThreadEnd.TheVariants.{Exit, Trap, Mismatch, Echo, PeerEnded, WriteFault}
 use Rattle.machine.specs.declared.stepped.Stepped.{Stepped}
 use Rattle.machine.specs.declared.stepped.Stepped.TheVariants.{Went as Made, NotYet, Ended as MadeLast}
-use Rattle.machine.specs.Side.{SideState, Meet, Plain, Got, Closed, Failed, Outcome, Ended}
-use Rattle.machine.specs.Steps.{quiet, sends, step_room}
+use Rattle.machine.specs.Side.{SideState, Meet, Plain, Got, Closed, Failed, Outcome, Went, Ended, StepGives}
+use Rattle.machine.specs.Steps.{passed_on, quiet, sends, step_room}
+use Rattle.machine.specs.Meets.{MeetsBy}
+use Rattle.machine.specs.Link.{Shown, kept, dropped_more, IsAsked, IsSent, IsLater}
 use Rattle.machine.specs.Leading.{answered, acts, awaits, compared, heard_by}
-use Rattle.machine.specs.Tried.{Shown, Comes, Sends, TriesBy}
+use Rattle.machine.specs.Faults.{faults_after}
+use Rattle.machine.specs.Tried.{question, waiting, Asks, Comes, TriesBy}
+use Rattle.machine.proofs.Sending.{kept_none, dropped_none}
+
+-- a step that was made: it asked its link this, and sent these words
+pub made_so : (taking sending : Bool) (gives : Meet → StepGives) (meet : Meet) (s s' : SideState) (w w' : WorldState) (stepped : Stepped) (events : List Event) (before after : Shown) →
+    MeetsBy taking (length (gives Plain).events) meet → Asks before after (question taking sending meet) →
+    after.sent ≡ kept after.gone before.sent (gives meet).sent → after.dropped ≡ dropped_more after.gone before.dropped (length (gives meet).sent) →
+    (gives meet).world ≡ w' → (gives meet).events ≡ events → Comes stepped s' (gives meet).outcome → TriesBy taking sending gives s w stepped s' w' events before after
+made_so taking sending gives meet s s' w w' Made events before after can asks sent dropped world written comes =
+    record { meet = meet; can_meet = can; asks = asks; outcome_is = comes; world_is = world; events_are = written; sent = sent; dropped = dropped }
+made_so taking sending gives meet s s' w w' NotYet events before after can asks sent dropped world written comes = absurd comes
+made_so taking sending gives meet s s' w w' (MadeLast end) events before after can asks sent dropped world written comes =
+    record { meet = meet; can_meet = can; asks = asks; outcome_is = comes; world_is = world; events_are = written; sent = sent; dropped = dropped }
+
+-- nothing was sent after the question
+module _ (call : LastCall) (before after : Shown) (asked : IsAsked call before after) where
+  pub none_kept : after.sent ≡ kept after.gone before.sent []
+  none_kept = asked.sent ∙ kept_none after.gone before.sent
+
+  pub none_lost : after.dropped ≡ dropped_more after.gone before.dropped 0
+  none_lost = asked.dropped ∙ dropped_none after.gone before.dropped
 
 -- a step that took a word
 pub took_word : (gives : Meet → Outcome) (s s' : SideState) (w : WorldState) (stepped : Stepped) (before after : Shown) (word : ℕ) →
-    Comes stepped s' (gives (Got word)) → after.last ≡ Take (Word word) → after.asks ≡ next_count before.asks → after.taken ≡ before.taken ++ word ∷ [] → after.sent ≡ before.sent →
+    Comes stepped s' (gives (Got word)) → IsAsked (Take (Word word)) before after →
     TriesBy true false (λ meet. quiet w (gives meet)) s w stepped s' w [] before after
-took_word gives s s' w Made before after word comes last asks taken sent =
-    record { meet = Got word; can_meet = refl; asks = (last, asks, taken); outcome_is = comes; world_is = refl; events_are = refl; words = sent }
-took_word gives s s' w NotYet before after word comes last asks taken sent = absurd comes
-took_word gives s s' w (MadeLast end) before after word comes last asks taken sent =
-    record { meet = Got word; can_meet = refl; asks = (last, asks, taken); outcome_is = comes; world_is = refl; events_are = refl; words = sent }
+took_word gives s s' w stepped before after word comes asked =
+    made_so true false (λ meet. quiet w (gives meet)) (Got word) s s' w w stepped [] before after refl (asked.last, asked.asks, asked.taken)
+    (none_kept _ before after asked) (none_lost _ before after asked) refl refl comes
+
+-- a step that found its link closed
+pub was_closed : (gives : Meet → Outcome) (s s' : SideState) (w : WorldState) (end : ThreadEnd) (before after : Shown) →
+    gives Closed ≡ Ended end → IsAsked (Take NoMore) before after →
+    TriesBy true false (λ meet. quiet w (gives meet)) s w (MadeLast end) s' w [] before after
+was_closed gives s s' w end before after comes asked =
+    made_so true false (λ meet. quiet w (gives meet)) Closed s s' w w (MadeLast end) [] before after refl (asked.last, asked.asks, asked.taken)
+    (none_kept _ before after asked) (none_lost _ before after asked) refl refl comes
+
+-- a step whose question was refused
+pub has_waited : (taking sending : Bool) (gives : Meet → StepGives) (call : LastCall) (s : SideState) (w : WorldState) (before after : Shown) →
+    waiting taking sending ≡ Some call → IsAsked call before after → TriesBy taking sending gives s w NotYet s w [] before after
+has_waited taking sending gives call s w before after refused asked =
+    record { call = call; refused = refused; asks = (asked.last, asked.asks, asked.taken); same_side = refl; same_world = refl; no_event = refl; none_sent = asked.sent; none_dropped = asked.dropped }
 
 -- a step that reached neither the other side nor the world
 pub was_quiet : (outcome : Outcome) (s s' : SideState) (w : WorldState) (stepped : Stepped) (link : Shown) →
     Comes stepped s' outcome → TriesBy false false (λ meet. quiet w outcome) s w stepped s' w [] link link
-was_quiet outcome s s' w Made link comes =
-    record { meet = Plain; can_meet = refl; asks = (refl, refl, refl); outcome_is = comes; world_is = refl; events_are = refl; words = refl }
-was_quiet outcome s s' w NotYet link comes = absurd comes
-was_quiet outcome s s' w (MadeLast end) link comes =
-    record { meet = Plain; can_meet = refl; asks = (refl, refl, refl); outcome_is = comes; world_is = refl; events_are = refl; words = refl }
+was_quiet outcome s s' w stepped link comes =
+    made_so false false (λ meet. quiet w outcome) Plain s s' w w stepped [] link link refl (refl, refl, refl) (kept_none link.gone link.sent) (dropped_none link.gone link.dropped) refl refl comes
 
--- room was there: the link was asked for it alone
-pub record HadRoom (before after : Shown) : Type 0 where
-  pub last : after.last ≡ Room step_room true
-  pub asks : after.asks ≡ next_count before.asks
-  pub taken : after.taken ≡ before.taken
-  pub sent : after.sent ≡ before.sent
+-- room was asked for, and was there
+abbrev pub HadRoom : Shown → Shown → Type 0
+HadRoom before after = IsAsked (Room step_room true) before after
 
-pub had_room : (before after : Shown) (granted : Bool) → granted ≡ true → after.last ≡ Room step_room granted → after.asks ≡ next_count before.asks → after.taken ≡ before.taken → after.sent ≡ before.sent → HadRoom before after
-had_room before after granted is last asks taken sent = record { last = last ∙ ap (Room step_room) is; asks = asks; taken = taken; sent = sent }
+pub had_room : (before after : Shown) (granted : Bool) → granted ≡ true → IsAsked (Room step_room granted) before after → HadRoom before after
+had_room before after granted is asked = subst (λ g. IsAsked (Room step_room g) before after) is asked
+
+-- the words of a step that had room
+pub sent_so : (s s' : SideState) (w : WorldState) (words : List ℕ) (before between after : Shown) → HadRoom before between → IsSent words between after → s' ≡ passed_on s →
+    TriesBy false true (λ meet. sends w s words) s w Made s' w [] before after
+sent_so s s' w words before between after room sent passed =
+    made_so false true (λ meet. sends w s words) Plain s s' w w Made [] before after refl (sent.last ∙ room.last, sent.asks ∙ room.asks, sent.taken ∙ room.taken)
+    (sent.sent ∙ ap (λ g. kept g between.sent words) (sym sent.gone) ∙ ap (λ ws. kept after.gone ws words) room.sent)
+    (sent.dropped ∙ ap (λ g. dropped_more g between.dropped (length words)) (sym sent.gone) ∙ ap (λ n. dropped_more after.gone n (length words)) room.dropped)
+    refl refl (ap Went (sym passed))
+
+pub later_of : (call : LastCall) (before after : Shown) → IsAsked call before after → IsLater before after
+later_of call before after asked = record { made = asked.made; stays_gone = asked.stays_gone }
+
+pub later_both : (words : List ℕ) (before between after : Shown) → HadRoom before between → IsSent words between after → IsLater before after
+later_both words before between after room sent = record { made = sent.made ∙ room.made; stays_gone = λ h. sent.gone ∙ room.stays_gone h }
+
+pub later_same : (link : Shown) → IsLater link link
+later_same link = record { made = refl; stays_gone = λ h. h }
 
 -- the world has answered
 pub acted : (request : Request) (asked : Asked) (response : Response) (s s' : SideState) (w w' : WorldState) (stepped : Stepped) (before after : Shown) →
     HadRoom before after → w' ≡ asked.world → response ≡ asked.response → Comes stepped s' (answered request response s) →
     TriesBy false true (λ meet. acts meet request asked s w) s w stepped s' w' asked.events before after
-acted request asked response s s' w w' stepped before after room world same comes = by_answer stepped (subst (λ r. Comes stepped s' (answered request r s)) same comes) where
-  taken_none : after.taken ≡ before.taken ++ []
-  taken_none = room.taken ∙ sym (append-nil before.taken)
-
-  sends_none : Sends after.gone before.sent (response_words request asked.response) after.sent
-  sends_none = subst (λ (words : List ℕ). Sends after.gone before.sent words after.sent) (sym (no_words request asked.response)) room.sent
-
-  by_answer : (stepped : Stepped) → Comes stepped s' (answered request asked.response s) → TriesBy false true (λ meet. acts meet request asked s w) s w stepped s' w' asked.events before after
-  by_answer Made h = record { meet = Plain; can_meet = refl; asks = (room.last, room.asks, taken_none); outcome_is = h; world_is = sym world; events_are = refl; words = sends_none }
-  by_answer NotYet h = absurd h
-  by_answer (MadeLast end) h = record { meet = Plain; can_meet = refl; asks = (room.last, room.asks, taken_none); outcome_is = h; world_is = sym world; events_are = refl; words = sends_none }
+acted request asked response s s' w w' stepped before after room world same comes =
+    made_so false true (λ meet. acts meet request asked s w) Plain s s' w w' stepped asked.events before after refl (room.last, room.asks, room.taken)
+    (subst (λ (words : List ℕ). after.sent ≡ kept after.gone before.sent words) (sym (no_words request asked.response)) (none_kept _ before after room))
+    (subst (λ (words : List ℕ). after.dropped ≡ dropped_more after.gone before.dropped (length words)) (sym (no_words request asked.response)) (none_lost _ before after room))
+    (sym world) refl (subst (λ r. Comes stepped s' (answered request r s)) same comes)
 
 -- the outlet has failed
 pub acted_failed : (request : Request) (asked : Asked) (written : ℕ) (s s' : SideState) (w w' : WorldState) (before after : Shown) →
-    HadRoom before after → written < length asked.events → w' ≡ stopped w →
+    HadRoom before after → written < length asked.events → w' ≡ Over →
     TriesBy false true (λ meet. acts meet request asked s w) s w (MadeLast WriteFault) s' w' (take written asked.events) before after
 acted_failed request asked written s s' w w' before after room within world =
-    record {
-      meet = Failed written;
-      can_meet = (refl, within);
-      asks = (room.last, room.asks, room.taken ∙ sym (append-nil before.taken));
-      outcome_is = refl;
-      world_is = sym world;
-      events_are = refl;
-      words = room.sent;
-    }
+    made_so false true (λ meet. acts meet request asked s w) (Failed written) s s' w w' (MadeLast WriteFault) (take written asked.events) before after (refl, within) (room.last, room.asks, room.taken)
+    (none_kept _ before after room) (none_lost _ before after room) (sym world) refl refl
 
 -- no step but an ACT ends by an event that failed
 pub sends_no_fault : (s s' : SideState) (w w' : WorldState) (words : List ℕ) (stepped : Stepped) (events : List Event) (before after : Shown) →
@@ -109,3 +144,22 @@ awaits_no_fault own s s' w w' Made events before after tries h = cc
 awaits_no_fault own s s' w w' NotYet events before after tries h = cc
 awaits_no_fault own s s' w w' (MadeLast end) events before after tries h =
     let same : end ≡ WriteFault = cc in awaits_fault tries.meet own s (tries.outcome_is ∙ ap Ended same)
+
+-- so the count of faults is as it was
+no_fault_counts : (stepped : Stepped) (faults : ℕ) → (stepped ≡ MadeLast WriteFault → ⊥) → faults ≡ faults_after stepped faults
+no_fault_counts Made faults none = refl
+no_fault_counts NotYet faults none = refl
+no_fault_counts (MadeLast (Exit status)) faults none = refl
+no_fault_counts (MadeLast (Trap trap line)) faults none = refl
+no_fault_counts (MadeLast (Mismatch taken own)) faults none = refl
+no_fault_counts (MadeLast (Echo taken own)) faults none = refl
+no_fault_counts (MadeLast PeerEnded) faults none = refl
+no_fault_counts (MadeLast WriteFault) faults none = absurd (none refl)
+
+pub sends_counts : (s s' : SideState) (w w' : WorldState) (words : List ℕ) (stepped : Stepped) (events : List Event) (before after : Shown) (faults : ℕ) →
+    TriesBy false true (λ meet. sends w s words) s w stepped s' w' events before after → faults ≡ faults_after stepped faults
+sends_counts s s' w w' words stepped events before after faults tries = no_fault_counts stepped faults (sends_no_fault s s' w w' words stepped events before after tries)
+
+pub awaits_counts : (own : List ℕ) (s s' : SideState) (w w' : WorldState) (stepped : Stepped) (events : List Event) (before after : Shown) (faults : ℕ) →
+    TriesBy true false (λ meet. quiet w (awaits meet own s)) s w stepped s' w' events before after → faults ≡ faults_after stepped faults
+awaits_counts own s s' w w' stepped events before after faults tries = no_fault_counts stepped faults (awaits_no_fault own s s' w w' stepped events before after tries)

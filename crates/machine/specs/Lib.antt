@@ -1,10 +1,14 @@
 pub mod Origin
+pub mod Link
 pub mod OneStep
 pub mod Side
+pub mod Upset
 pub mod Steps
+pub mod Performed
 pub mod Leading
 pub mod Trailing
 pub mod Meets
 pub mod Tried
+pub mod Faults
 pub mod Fits
 pub mod View

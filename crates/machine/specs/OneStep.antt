@@ -3,8 +3,10 @@ use Rattle.std.specs.Prelude.{ℕ, Bool, true, false, List, [], take}
 use Rattle.machine.specs.declared.link_call.Taken.{Taken}
 use Rattle.machine.specs.declared.link_call.Taken.TheVariants.{Word, NotYet, Closed}
 use Rattle.machine.specs.declared.link_call.LastCall.{LastCall}
+use Rattle.machine.specs.declared.link_call.LastCall.TheVariants.{Nothing}
 use Rattle.machine.specs.declared.one_step.OneStep.{OneStep}
 use Rattle.machine.specs.Origin.{Origin, Given, word_taken}
+use Rattle.machine.specs.Link.{Shown}
 
 -- the arguments of its `new`
 abbrev pub made_of : OneStep → Origin
@@ -35,6 +37,31 @@ asks_of step = step.asks
 
 abbrev pub last_of : OneStep → LastCall
 last_of step = step.last
+
+abbrev pub shown_of : OneStep → Shown
+shown_of step = record {
+  made = made_of step;
+  sent = sent_of step;
+  dropped = step.dropped;
+  taken = taken_of step;
+  spare = spare_of step;
+  gone = gone_of step;
+  asks = asks_of step;
+  last = last_of step;
+}
+
+-- what it shows where nothing was asked of it and nothing sent
+abbrev pub unasked : Taken → ℕ → Bool → Shown
+unasked give spare gone = record {
+  made = Given give spare gone;
+  sent = [];
+  dropped = 0;
+  taken = [];
+  spare = spare;
+  gone = gone;
+  asks = 0;
+  last = Nothing;
+}
 
 -- what a link answers that was taken from already: a word is given once, and what is no word again
 abbrev pub later_answer : Taken → Taken

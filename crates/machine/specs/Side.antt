@@ -2,16 +2,15 @@
 use Rattle.std.specs.Prelude.{ℕ, List, []}
 use Rattle.srmt_base.specs.declared.event.Event.{Event}
 use Rattle.srmt_base.specs.declared.limits.Limits.{Limits}
-use Rattle.mid_code.specs.declared.program.MidProgram.{MidProgram}
-use Rattle.mid_code.specs.Machine.{Machine}
-use Rattle.mid_code.specs.Start.{started_machine}
+use Rattle.mid_code.specs.Classes.{SharedProgram}
 use Rattle.world.specs.World.{WorldState}
+use Rattle.world.specs.Standing.{Standing, started_standing}
 use Rattle.verdicts.specs.declared.thread_end.ThreadEnd.{ThreadEnd}
 
--- its machine, whose places are those of the side's own version, and the acknowledgements that it
--- has taken so far where it awaits them
+-- where it stands, at places of its own version, and the words that it has taken so far at its
+-- instruction: the acknowledgements that it awaits
 pub record SideState : Type 0 where
-  pub machine : Machine
+  pub at : Standing
   pub heard : List ℕ
 
 -- what a step meets: nothing, the word that it takes, that none will come, or an outlet that fails
@@ -36,5 +35,5 @@ pub record StepGives : Type 0 where
   pub events : List Event
 
 -- where each side begins: `main` is entered, with all registers 0
-abbrev pub opening : MidProgram → Limits → SideState
-opening program limits = record { machine = started_machine program limits; heard = [] }
+abbrev pub opening : SharedProgram → Limits → SideState
+opening program limits = record { at = started_standing program.program limits; heard = [] }

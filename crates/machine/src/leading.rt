@@ -1,39 +1,42 @@
-ghost use Rattle.std.specs.Prelude.{◌≡◌, ℕ, ◌+◌, ◌^◌, ◌<◌, ◌≤◌, ◌⊎◌, true, false, List, [], ◌∷◌, ◌++◌, All, length, slice_index, IsTrue, IfNone, IfSome};
+ghost use Rattle.std.specs.Prelude.{◌≡◌, ◌≢◌, ◌^◌, ◌<◌, true, false, List, [], length, IsTrue, IfNone, IfSome};
 ghost use Rattle.srmt_base.specs.declared.event.Event.{Event};
 ghost use Rattle.srmt_base.specs.declared.side.Side.TheVariants.{Lead};
-ghost use Rattle.srmt_outside.specs.Count.{Rose};
 ghost use Rattle.srmt_outside.specs.Told.{Appends};
+ghost use Rattle.mid_code.specs.Versions.{operands_list};
 ghost use Rattle.word_stream.specs.Exchange.{ack_words};
-ghost use Rattle.world.specs.World.{WorldState, ask};
+ghost use Rattle.world.specs.World.{WorldState, is_live, ask};
 ghost use Rattle.machine.specs.Side.{Got, Went, Ended};
 ghost use Rattle.machine.specs.Steps.{operands, passed_on, quiet};
-ghost use Rattle.machine.specs.Leading.{act_request, acts, answered, awaits, compared};
-ghost use Rattle.machine.specs.Tried.{shown, Comes, Tries, TriesBy};
-ghost use Rattle.machine.specs.Fits.{FitsAfter, LivesAfter, SideFits};
+ghost use Rattle.machine.specs.Leading.{acts, answered, awaits, compared};
+ghost use Rattle.machine.specs.Link.{SentBelow, IsLater};
+ghost use Rattle.machine.specs.Tried.{Comes, Tries, TriesBy};
+ghost use Rattle.machine.specs.Faults.{faults_after};
+ghost use Rattle.machine.specs.Fits.{AreRegisters, CanSpell, FitsAfter, HoldsSmall, IsNear, LivesAfter, SideFits};
 
 use crate::link::Link;
 use crate::link_call::Taken;
 use crate::machine::Machine;
 use crate::stepped::Stepped;
 use crate::steps::{STEP_ROOM, perform, send_operands};
-use mid_code::{Asks, Pair, VersionOp};
-use sqlite_items::Items;
+use mid_code::{Operands, Pair, VersionOp};
 use srmt_base::{Kind, Site, Word, pack};
 use srmt_outside::Outlet;
 use verdicts::ThreadEnd;
-use word_stream::{Request, Response};
+use word_stream::{Request, Response, request_of};
 use world::World;
 
 // The first acknowledgement that differs from the side's own, as it ends the side.
-fn first_difference(m: &Machine, site: Site, args: &[u16], words: &[Word]) -> Option<ThreadEnd>
-    requires registers { All (λ a. a < length m.now.machine.top.registers) args.now }
-    requires small { All (λ v. v < 2 ^ 44) m.now.machine.top.registers }
-    requires as_many { length words.now ≡ length args.now }
-    ensures none { IfNone result (compared words.now (ack_words site.0 (operands m.now args.now)) m.now ≡ Went (passed_on m.now)) }
-    ensures some { IfSome result (λ end. compared words.now (ack_words site.0 (operands m.now args.now)) m.now ≡ Ended end) }
+fn first_difference(m: &Machine, site: Site, args: &Operands, words: &[Word]) -> Option<ThreadEnd>
+    requires registers { AreRegisters m.now (operands_list args.now) }
+    requires small { HoldsSmall m.now }
+    requires as_many { length words.now ≡ length (operands_list args.now) }
+    ensures none { IfNone result (compared words.now
+        (ack_words site.0 (operands m.now (operands_list args.now))) m.now ≡ Went (passed_on m.now)) }
+    ensures some { IfSome result (λ end. compared words.now
+        (ack_words site.0 (operands m.now (operands_list args.now))) m.now ≡ Ended end) }
 {
     for (i, word) in words.iter().enumerate() {
-        let own = pack(Kind::Ack, site, m.register(args[i]));
+        let own = pack(Kind::Ack, site, m.operand(args, i));
         if *word != own {
             return Some(ThreadEnd::Echo(*word, own));
         }
@@ -42,19 +45,18 @@ fn first_difference(m: &Machine, site: Site, args: &[u16], words: &[Word]) -> Op
 }
 
 // Takes an acknowledgement, and compares all of them where it is the last.
-fn hear(m: &mut Machine, site: Site, args: &Items<u16>, word: Word) -> Stepped
-    requires registers { All (λ a. a < length m.old.machine.top.registers) args.now }
-    requires small { All (λ v. v < 2 ^ 44) m.old.machine.top.registers }
-    requires few { length args.now ≤ 17 }
-    requires more { length m.old.heard < length args.now }
-    requires place { m.old.machine.top.place < 2 ^ 18 }
-    ensures { Comes result m.new (awaits (Got word) (ack_words site.0 (operands m.old args.now)) m.old) }
+fn hear(m: &mut Machine, site: Site, args: &Operands, word: Word) -> Stepped
+    requires spelled { CanSpell m.old (operands_list args.now) }
+    requires more { length m.old.heard < length (operands_list args.now) }
+    requires near { IsNear m.old }
+    ensures { Comes result m.new
+        (awaits (Got word) (ack_words site.0 (operands m.old (operands_list args.now))) m.old) }
 {
     m.heard.push(word);
     if m.heard.as_slice().len() < args.len() {
         return Stepped::Went;
     }
-    if let Some(end) = first_difference(m, site, args.as_slice(), m.heard.as_slice()) {
+    if let Some(end) = first_difference(m, site, args, m.heard.as_slice()) {
         return Stepped::Ended(end);
     }
     m.pass();
@@ -62,42 +64,31 @@ fn hear(m: &mut Machine, site: Site, args: &Items<u16>, word: Word) -> Stepped
 }
 
 // Takes the next acknowledgement, if one is there.
-fn await_acks<L: Link>(m: &mut Machine, site: Site, args: &Items<u16>, link: &mut L) -> Stepped
-    requires registers { All (λ a. a < length m.old.machine.top.registers) args.now }
-    requires small { All (λ v. v < 2 ^ 44) m.old.machine.top.registers }
-    requires few { length args.now ≤ 17 }
-    requires more { length m.old.heard < length args.now }
-    requires place { m.old.machine.top.place < 2 ^ 18 }
-    ensures tries { (w : WorldState) → TriesBy true false (λ meet. quiet w (awaits meet (ack_words site.0 (operands m.old args.now)) m.old)) m.old w result m.new w []
-        (shown (L.sent link.old) (L.taken link.old) (L.gone link.old) (L.asks link.old) (L.last link.old))
-        (shown (L.sent link.new) (L.taken link.new) (L.gone link.new) (L.asks link.new) (L.last link.new)) }
-    ensures made { L.made link.new ≡ L.made link.old }
-    ensures stays_gone { L.gone link.old ≡ true → L.gone link.new ≡ true }
+fn await_acks<L: Link>(m: &mut Machine, site: Site, args: &Operands, link: &mut L) -> Stepped
+    requires spelled { CanSpell m.old (operands_list args.now) }
+    requires more { length m.old.heard < length (operands_list args.now) }
+    requires near { IsNear m.old }
+    ensures tries { (w : WorldState) → TriesBy true false
+        (λ meet. quiet w (awaits meet (ack_words site.0 (operands m.old (operands_list args.now))) m.old))
+        m.old w result m.new w [] (L.shows link.old) (L.shows link.new) }
+    ensures later { IsLater (L.shows link.old) (L.shows link.new) }
 {
     match link.take() {
         Taken::NotYet => Stepped::NotYet,
         Taken::Closed => Stepped::Ended(ThreadEnd::PeerEnded),
         Taken::Word(word) => {
+            // The name is for the proof, which cites what the call answers.
             let stepped = hear(m, site, args, word);
             stepped
         }
     }
 }
 
-// The request that an ACT makes of its first operand.
-fn request_of(asks: Asks, site: Site, value: u64) -> Request
-    ensures { (values : List ℕ) → slice_index values 0 ≡ value → result ≡ act_request asks site values }
-{
-    match asks {
-        Asks::Put => Request::Put { site, value },
-        Asks::Exit => Request::Exit { site, value },
-    }
-}
-
 // Goes on after the world has answered.
 fn resume(m: &mut Machine, request: Request, _response: Response) -> Stepped
-    requires { m.old.machine.top.place < 2 ^ 18 }
-    ensures { Comes result m.new (answered request _response m.old) }
+    requires { IsNear m.old }
+    ensures comes { Comes result m.new (answered request _response m.old) }
+    ensures no_fault { result ≢ Stepped.Ended ThreadEnd.WriteFault }
 {
     match request {
         Request::Put { .. } => {
@@ -118,16 +109,14 @@ fn act_on<O: Outlet, L: Link>(
     link: &mut L,
     request: Request,
 ) -> Stepped
-    requires live { IsTrue w.old.live }
-    requires place { m.old.machine.top.place < 2 ^ 18 }
-    ensures tries { (events : List Event) × TriesBy false true (λ meet. acts meet request (ask w.old request) m.old w.old) m.old w.old result m.new w.new events
-        (shown (L.sent link.old) (L.taken link.old) (L.gone link.old) (L.asks link.old) (L.last link.old))
-        (shown (L.sent link.new) (L.taken link.new) (L.gone link.new) (L.asks link.new) (L.last link.new))
+    requires live { IsTrue (is_live w.old) }
+    requires near { IsNear m.old }
+    ensures tries { (events : List Event) × TriesBy false true
+        (λ meet. acts meet request (ask w.old request) m.old w.old)
+        m.old w.old result m.new w.new events (L.shows link.old) (L.shows link.new)
         × Appends (O.events outlet.old) (O.events outlet.new) events }
-    ensures failed { result ≡ Stepped.Ended ThreadEnd.WriteFault → Rose (O.faults outlet.old) (O.faults outlet.new) }
-    ensures never_falls { O.faults outlet.old ≤ O.faults outlet.new }
-    ensures made { L.made link.new ≡ L.made link.old }
-    ensures stays_gone { L.gone link.old ≡ true → L.gone link.new ≡ true }
+    ensures faults { O.faults outlet.new ≡ faults_after result (O.faults outlet.old) }
+    ensures later { IsLater (L.shows link.old) (L.shows link.new) }
 {
     if !link.room(STEP_ROOM) {
         return Stepped::NotYet;
@@ -152,19 +141,19 @@ pub fn lead_step<O: Outlet, L: Link>(
     link: &mut L,
 ) -> Stepped
     requires fits { SideFits Lead pair.now m.old }
-    requires live { IsTrue w.old.live }
-    requires countable { length (L.sent link.old) < 2 ^ 62 }
-    ensures step { (events : List Event) × Tries Lead pair.now m.old w.old result m.new w.new events
-        (shown (L.sent link.old) (L.taken link.old) (L.gone link.old) (L.asks link.old) (L.last link.old))
-        (shown (L.sent link.new) (L.taken link.new) (L.gone link.new) (L.asks link.new) (L.last link.new))
+    requires live { IsTrue (is_live w.old) }
+    requires countable { SentBelow (2 ^ 62) (L.shows link.old) }
+    ensures step { (events : List Event)
+        × Tries Lead pair.now m.old w.old result m.new w.new events (L.shows link.old) (L.shows link.new)
         × Appends (O.events outlet.old) (O.events outlet.new) events }
     ensures fits { FitsAfter result Lead pair.now m.new }
     ensures live { LivesAfter result w.new }
-    ensures failed { result ≡ Stepped.Ended ThreadEnd.WriteFault → Rose (O.faults outlet.old) (O.faults outlet.new) }
-    ensures never_falls { O.faults outlet.old ≤ O.faults outlet.new }
-    ensures made { L.made link.new ≡ L.made link.old }
-    ensures stays_gone { L.gone link.old ≡ true → L.gone link.new ≡ true }
+
+    // It ends by an event that failed exactly where the outlet has counted a fault.
+    ensures faults { O.faults outlet.new ≡ faults_after result (O.faults outlet.old) }
+    ensures later { IsLater (L.shows link.old) (L.shows link.new) }
 {
+    // The call is for the proof: a pair is one of a program of the first form.
     let _pair = pair.classed();
     let Some(line) = pair.leading_at(m.function, m.place) else {
         unreachable!()
@@ -174,22 +163,41 @@ pub fn lead_step<O: Outlet, L: Link>(
             let stepped = perform(m, *mid, line.line);
             stepped
         }
-        VersionOp::Ask { site, args } => {
-            let stepped = send_operands(m, Kind::Check, *site, args, link);
+        VersionOp::Ask { site, operands } => {
+            let stepped = send_operands(m, Kind::Check, *site, operands, link);
             stepped
         }
-        VersionOp::Await { site, args } => {
-            let stepped = await_acks(m, *site, args, link);
+        VersionOp::Await { site, operands } => {
+            let stepped = await_acks(m, *site, operands, link);
             stepped
         }
-        VersionOp::Act { site, asks, args } => {
-            let Some(source) = args.get(0) else {
+        VersionOp::Act {
+            site,
+            request,
+            operands,
+            ..
+        } => {
+            let value = m.operand(operands, 0);
+            let Some(request) = request_of(*request, *site, value) else {
                 unreachable!()
             };
-            let request = request_of(*asks, *site, m.register(*source));
             let stepped = act_on(pair, m, w, outlet, link, request);
             stepped
         }
-        VersionOp::Check { .. } | VersionOp::Ack { .. } | VersionOp::End { .. } => unreachable!(),
+        VersionOp::SharedLoad { .. }
+        | VersionOp::SharedStore { .. }
+        | VersionOp::SharedOpen { .. }
+        | VersionOp::SharedClose { .. }
+        | VersionOp::Enter { .. }
+        | VersionOp::Callback { .. }
+        | VersionOp::Check { .. }
+        | VersionOp::CheckZero { .. }
+        | VersionOp::CheckStored { .. }
+        | VersionOp::Ack { .. }
+        | VersionOp::Take { .. }
+        | VersionOp::TakeDone { .. }
+        | VersionOp::CheckOpen { .. }
+        | VersionOp::CheckClose { .. }
+        | VersionOp::End { .. } => unreachable!(),
     }
 }

@@ -1,7 +1,6 @@
-ghost use Rattle.std.specs.Prelude.{◌≡◌, ℕ, ◌+◌, ◌-◌, ◌^◌, ◌<◌, ◌≤◌, ◌⊎◌, ◌↔◌, Bool, false, true, List, [], ◌∷◌, ◌++◌, length, IsTrue};
+ghost use Rattle.std.specs.Prelude.{◌≡◌, ℕ, ◌+◌, ◌-◌, ◌^◌, ◌<◌, ◌≤◌, ◌↔◌, false, true, [], ◌∷◌, length, IsTrue};
 ghost use Rattle.machine.specs.declared.link_call.Taken.{Taken};
-ghost use Rattle.machine.specs.declared.link_call.LastCall.{LastCall};
-ghost use Rattle.machine.specs.declared.link_call.LastCall.TheVariants.{Nothing, Room, Take};
+ghost use Rattle.machine.specs.declared.link_call.LastCall.TheVariants.{Room, Take};
 
 use crate::link::Link;
 use crate::link_call::{LastCall, Taken};
@@ -15,6 +14,7 @@ pub struct OneStep {
     began: u8,
     spare: u8,
     gone: bool,
+    dropped: u64,
     was_taken: bool,
     asks: u64,
     last: LastCall,
@@ -34,19 +34,12 @@ pub struct OneStep {
 }
 
 impl OneStep {
-    ghost use Rattle.machine.specs.OneStep.{made_of, sent_of, taken_of, spare_of, gone_of, asks_of, last_of, next_answer};
-    ghost use Rattle.machine.specs.Origin.{Given};
+    ghost use Rattle.machine.specs.OneStep.{sent_of, last_of, shown_of, unasked, next_answer};
 
     /// A link that may give this, and has room for 0 to 18 words.
     pub fn new(give: Taken, spare: u8, gone: bool) -> Self
         requires { spare ≤ 18 }
-        ensures made { made_of result ≡ Given give spare gone }
-        ensures sent { sent_of result ≡ [] }
-        ensures taken { taken_of result ≡ [] }
-        ensures spare { spare_of result ≡ spare }
-        ensures gone { gone_of result ≡ gone }
-        ensures asks { asks_of result ≡ 0 }
-        ensures last { last_of result ≡ Nothing }
+        ensures shows { shown_of result ≡ unasked give spare gone }
         ensures answer { next_answer result ≡ give }
     {
         let blank = pack(Kind::Check, Site(0), 0);
@@ -55,6 +48,7 @@ impl OneStep {
             began: spare,
             spare,
             gone,
+            dropped: 0,
             was_taken: false,
             asks: 0,
             last: LastCall::Nothing,
@@ -91,37 +85,19 @@ impl OneStep {
 }
 
 impl Link for OneStep {
-    ghost use Rattle.machine.specs.OneStep.{made_of, sent_of, taken_of, spare_of, gone_of, asks_of, last_of, next_answer, later_answer};
-    ghost use Rattle.machine.specs.Origin.{word_taken};
-    ghost use Rattle.srmt_outside.specs.Count.{next_count};
+    ghost use Rattle.machine.specs.OneStep.{spare_of, gone_of, shown_of, next_answer, later_answer};
+    ghost use Rattle.machine.specs.Link.{HasRoom, SentBelow, IsAsked, IsSent};
 
-    ghost made = { made_of };
-
-    ghost sent = { sent_of };
-
-    ghost taken = { taken_of };
-
-    ghost spare = { spare_of };
-
-    ghost gone = { gone_of };
-
-    ghost asks = { asks_of };
-
-    ghost last = { last_of };
+    ghost shows = { shown_of };
 
     fn room(&mut self, words: u8) -> bool
         ensures refused { (result ≡ false)
             ↔ ((spare_of self.old < words) × (gone_of self.old ≡ false)) }
-        ensures room { IsTrue result → (words ≤ spare_of self.new) ⊎ (gone_of self.new ≡ true) }
-        ensures asks { asks_of self.new ≡ next_count (asks_of self.old) }
-        ensures last { last_of self.new ≡ Room words result }
-        ensures made { made_of self.new ≡ made_of self.old }
-        ensures sent { sent_of self.new ≡ sent_of self.old }
-        ensures taken { taken_of self.new ≡ taken_of self.old }
+        ensures room { IsTrue result → HasRoom words (shown_of self.new) }
+        ensures asked { IsAsked (Room words result) (shown_of self.old) (shown_of self.new) }
         ensures spare { spare_of self.new ≡ spare_of self.old }
         ensures gone { gone_of self.new ≡ gone_of self.old }
         ensures answer { next_answer self.new ≡ next_answer self.old }
-        ensures stays_gone { gone_of self.old ≡ true → gone_of self.new ≡ true }
     {
         let granted = self.gone || words <= self.spare;
         self.asks = self.asks.saturating_add(1);
@@ -130,40 +106,27 @@ impl Link for OneStep {
     }
 
     fn send(&mut self, word: Word)
-        requires room { (1 ≤ spare_of self.old) ⊎ (gone_of self.old ≡ true) }
-        requires countable { length (sent_of self.old) < 2 ^ 63 - 1 }
-        ensures kept { 1 ≤ spare_of self.old → sent_of self.new ≡ sent_of self.old ++ word ∷ [] }
-        ensures dropped { spare_of self.old ≡ 0 → sent_of self.new ≡ sent_of self.old }
-        ensures sent { (sent_of self.new ≡ sent_of self.old ++ word ∷ [])
-            ⊎ ((gone_of self.old ≡ true) × (sent_of self.new ≡ sent_of self.old)) }
-        ensures left { spare_of self.new ≡ spare_of self.old - 1 }
-        ensures spare { (spare_of self.old ≤ spare_of self.new + 1) ⊎ (gone_of self.new ≡ true) }
-        ensures asks { asks_of self.new ≡ asks_of self.old }
-        ensures last { last_of self.new ≡ last_of self.old }
-        ensures made { made_of self.new ≡ made_of self.old }
-        ensures taken { taken_of self.new ≡ taken_of self.old }
-        ensures gone { gone_of self.new ≡ gone_of self.old }
+        requires room { HasRoom 1 (shown_of self.old) }
+        requires countable { SentBelow (2 ^ 63 - 1) (shown_of self.old) }
+        ensures sent { IsSent (word ∷ []) (shown_of self.old) (shown_of self.new) }
+        ensures left { gone_of self.old ≡ false → spare_of self.new + 1 ≡ spare_of self.old }
         ensures answer { next_answer self.new ≡ next_answer self.old }
-        ensures stays_gone { gone_of self.old ≡ true → gone_of self.new ≡ true }
     {
-        if self.spare > 0 {
-            self.row[usize::from(self.count)] = word;
-            self.count += 1;
-            self.spare -= 1;
+        if self.gone {
+            self.dropped += 1;
+            return;
         }
+        self.row[usize::from(self.count)] = word;
+        self.count += 1;
+        self.spare -= 1;
     }
 
     fn take(&mut self) -> Taken
         ensures answer { result ≡ next_answer self.old }
         ensures later { next_answer self.new ≡ later_answer result }
-        ensures taken { taken_of self.new ≡ taken_of self.old ++ word_taken result }
-        ensures asks { asks_of self.new ≡ next_count (asks_of self.old) }
-        ensures last { last_of self.new ≡ Take result }
-        ensures made { made_of self.new ≡ made_of self.old }
-        ensures sent { sent_of self.new ≡ sent_of self.old }
+        ensures asked { IsAsked (Take result) (shown_of self.old) (shown_of self.new) }
         ensures spare { spare_of self.new ≡ spare_of self.old }
         ensures gone { gone_of self.new ≡ gone_of self.old }
-        ensures stays_gone { gone_of self.old ≡ true → gone_of self.new ≡ true }
     {
         let answer = self.answer();
         self.was_taken = true;

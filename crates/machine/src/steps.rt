@@ -1,16 +1,20 @@
-ghost use Rattle.std.specs.Prelude.{◌≡◌, ℕ, ◌+◌, ◌-◌, ◌^◌, ◌<◌, ◌≤◌, ◌⊎◌, Bool, true, false, List, [], ◌∷◌, ◌++◌, All, length, map, take};
+ghost use Rattle.std.specs.Prelude.{◌≡◌, ◌^◌, ◌<◌, true, false, [], length, map};
 ghost use Rattle.srmt_base.specs.Word.{word_of};
-ghost use Rattle.mid_code.specs.declared.program.MidProgram.{MidProgram};
-ghost use Rattle.mid_code.specs.Machine.{act, given};
+ghost use Rattle.mid_code.specs.Classes.{SharedProgram};
+ghost use Rattle.mid_code.specs.Machine.{given};
+ghost use Rattle.mid_code.specs.Versions.{operands_list};
 ghost use Rattle.world.specs.World.{WorldState};
-ghost use Rattle.machine.specs.Steps.{operands, IsPerformed, performed, sends};
-ghost use Rattle.machine.specs.Tried.{shown, Comes, Sends, TriesBy};
+ghost use Rattle.world.specs.Standing.{standing_at};
+ghost use Rattle.machine.specs.Steps.{operands, wanted, performed, sends};
+ghost use Rattle.machine.specs.Fits.{CanSpell, IsNear};
+ghost use Rattle.machine.specs.Performed.{IsPerformed};
+ghost use Rattle.machine.specs.Link.{HasRoom, SentBelow, IsSent, IsLater};
+ghost use Rattle.machine.specs.Tried.{Comes, TriesBy};
 
 use crate::link::Link;
 use crate::machine::Machine;
 use crate::stepped::Stepped;
-use mid_code::Mid;
-use sqlite_items::Items;
+use mid_code::{Mid, Operands};
 use srmt_base::{Kind, Site, convert, pack};
 
 /// For how many words a step that may send wants room.
@@ -18,9 +22,9 @@ pub(crate) const STEP_ROOM: u8 = 18;
 
 // Passes its instruction, with a value in the target register.
 fn set(m: &mut Machine, target: u16, value: u64)
-    requires register { target < length m.old.machine.top.registers }
-    requires place { m.old.machine.top.place < 2 ^ 18 }
-    ensures { m.new ≡ record { machine = given target value m.old.machine; heard = [] } }
+    requires register { target < length m.old.at.machine.top.registers }
+    requires near { IsNear m.old }
+    ensures { m.new ≡ record { at = standing_at (given target value m.old.at.machine.top) m.old.at; heard = [] } }
 {
     m.registers[usize::from(target)] = value;
     m.pass();
@@ -28,10 +32,11 @@ fn set(m: &mut Machine, target: u16, value: u64)
 
 /// Performs an instruction that both sides perform. None of them stops the run.
 pub(crate) fn perform(m: &mut Machine, mid: Mid, _line: u32) -> Stepped
-    requires performed { IsPerformed (length m.old.machine.top.registers) mid }
-    requires place { m.old.machine.top.place < 2 ^ 18 }
+    requires performed { IsPerformed (length m.old.at.machine.top.registers) mid }
+    requires near { IsNear m.old }
     ensures went { result ≡ Stepped.Went }
-    ensures comes { (program : MidProgram) → Comes result m.new (performed (act program mid _line m.old.machine) m.old) }
+    ensures comes { (program : SharedProgram)
+        → Comes result m.new (performed (wanted program mid _line m.old) m.old) }
 {
     match mid {
         Mid::Const { target, value } => set(m, target, value),
@@ -44,27 +49,43 @@ pub(crate) fn perform(m: &mut Machine, mid: Mid, _line: u32) -> Stepped
             let value = convert(from, to, m.register(source));
             set(m, target, value);
         }
-        _ => unreachable!(),
+        Mid::Move { .. }
+        | Mid::Arith { .. }
+        | Mid::PtrAdd { .. }
+        | Mid::PtrDiff { .. }
+        | Mid::PtrCmp { .. }
+        | Mid::GlobAddr { .. }
+        | Mid::FunAddr { .. }
+        | Mid::Load { .. }
+        | Mid::Store { .. }
+        | Mid::VLoad { .. }
+        | Mid::VStore { .. }
+        | Mid::Open { .. }
+        | Mid::Close { .. }
+        | Mid::Jump { .. }
+        | Mid::JumpZ { .. }
+        | Mid::JumpN { .. }
+        | Mid::Turn
+        | Mid::Call { .. }
+        | Mid::CallPtr { .. }
+        | Mid::Return { .. }
+        | Mid::Put { .. }
+        | Mid::Get { .. }
+        | Mid::Exit { .. } => unreachable!(),
     }
     Stepped::Went
 }
 
 // Sends a word of this kind for each operand, for which there is room.
-fn send_each<L: Link>(m: &Machine, kind: Kind, site: Site, args: &[u16], link: &mut L)
-    requires few { length args.now ≤ 18 }
-    requires registers { All (λ a. a < length m.now.machine.top.registers) args.now }
-    requires small { All (λ v. v < 2 ^ 44) m.now.machine.top.registers }
-    requires room { (18 ≤ L.spare link.old) ⊎ (L.gone link.old ≡ true) }
-    requires countable { length (L.sent link.old) < 2 ^ 62 }
-    ensures sent { Sends (L.gone link.new) (L.sent link.old) (map (word_of kind site.0) (operands m.now args.now)) (L.sent link.new) }
-    ensures taken { L.taken link.new ≡ L.taken link.old }
-    ensures asks { L.asks link.new ≡ L.asks link.old }
-    ensures last { L.last link.new ≡ L.last link.old }
-    ensures made { L.made link.new ≡ L.made link.old }
-    ensures stays_gone { L.gone link.old ≡ true → L.gone link.new ≡ true }
+fn send_each<L: Link>(m: &Machine, kind: Kind, site: Site, args: &Operands, link: &mut L)
+    requires spelled { CanSpell m.now (operands_list args.now) }
+    requires room { HasRoom 18 (L.shows link.old) }
+    requires countable { SentBelow (2 ^ 62) (L.shows link.old) }
+    ensures { IsSent (map (word_of kind site.0) (operands m.now (operands_list args.now)))
+        (L.shows link.old) (L.shows link.new) }
 {
-    for arg in args {
-        let value = m.register(*arg);
+    for i in 0..args.len() {
+        let value = m.operand(args, i);
         link.send(pack(kind, site, value));
     }
 }
@@ -74,24 +95,21 @@ pub(crate) fn send_operands<L: Link>(
     m: &mut Machine,
     kind: Kind,
     site: Site,
-    args: &Items<u16>,
+    args: &Operands,
     link: &mut L,
 ) -> Stepped
-    requires few { length args.now ≤ 17 }
-    requires registers { All (λ a. a < length m.old.machine.top.registers) args.now }
-    requires small { All (λ v. v < 2 ^ 44) m.old.machine.top.registers }
-    requires place { m.old.machine.top.place < 2 ^ 18 }
-    requires countable { length (L.sent link.old) < 2 ^ 62 }
-    ensures tries { (w : WorldState) → TriesBy false true (λ meet. sends w m.old (map (word_of kind site.0) (operands m.old args.now))) m.old w result m.new w []
-        (shown (L.sent link.old) (L.taken link.old) (L.gone link.old) (L.asks link.old) (L.last link.old))
-        (shown (L.sent link.new) (L.taken link.new) (L.gone link.new) (L.asks link.new) (L.last link.new)) }
-    ensures made { L.made link.new ≡ L.made link.old }
-    ensures stays_gone { L.gone link.old ≡ true → L.gone link.new ≡ true }
+    requires spelled { CanSpell m.old (operands_list args.now) }
+    requires near { IsNear m.old }
+    requires countable { SentBelow (2 ^ 62) (L.shows link.old) }
+    ensures tries { (w : WorldState) → TriesBy false true
+        (λ meet. sends w m.old (map (word_of kind site.0) (operands m.old (operands_list args.now))))
+        m.old w result m.new w [] (L.shows link.old) (L.shows link.new) }
+    ensures later { IsLater (L.shows link.old) (L.shows link.new) }
 {
     if !link.room(STEP_ROOM) {
         return Stepped::NotYet;
     }
-    send_each(m, kind, site, args.as_slice(), link);
+    send_each(m, kind, site, args, link);
     m.pass();
     Stepped::Went
 }

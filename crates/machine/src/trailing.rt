@@ -1,14 +1,14 @@
-ghost use Rattle.std.specs.Prelude.{◌≡◌, ℕ, ◌+◌, ◌^◌, ◌<◌, ◌≤◌, ◌⊎◌, true, false, List, [], ◌∷◌, ◌++◌, All, length};
+ghost use Rattle.std.specs.Prelude.{◌^◌, ◌<◌, true, false, [], length};
 ghost use Rattle.srmt_base.specs.declared.side.Side.TheVariants.{Trail};
 ghost use Rattle.srmt_base.specs.declared.word.Kind.TheVariants.{Check};
 ghost use Rattle.srmt_base.specs.Word.{word_of};
-ghost use Rattle.mid_code.specs.Machine.{register};
 ghost use Rattle.world.specs.World.{WorldState};
 ghost use Rattle.machine.specs.Side.{Got};
-ghost use Rattle.machine.specs.Steps.{quiet};
+ghost use Rattle.machine.specs.Steps.{holds, quiet};
 ghost use Rattle.machine.specs.Trailing.{checks};
-ghost use Rattle.machine.specs.Tried.{shown, Comes, Tries, TriesBy};
-ghost use Rattle.machine.specs.Fits.{FitsAfter, SideFits};
+ghost use Rattle.machine.specs.Link.{SentBelow, IsLater};
+ghost use Rattle.machine.specs.Tried.{Comes, Tries, TriesBy};
+ghost use Rattle.machine.specs.Fits.{FitsAfter, HoldsSmall, IsNear, SideFits};
 
 use crate::link::Link;
 use crate::link_call::Taken;
@@ -21,7 +21,7 @@ use verdicts::ThreadEnd;
 
 // Compares a word with the side's own.
 fn compare(m: &mut Machine, own: Word, word: Word) -> Stepped
-    requires { m.old.machine.top.place < 2 ^ 18 }
+    requires { IsNear m.old }
     ensures { Comes result m.new (checks (Got word) own m.old) }
 {
     if word != own {
@@ -33,20 +33,20 @@ fn compare(m: &mut Machine, own: Word, word: Word) -> Stepped
 
 // Takes the next word, if one is there, and compares it with the side's own.
 fn check_word<L: Link>(m: &mut Machine, site: Site, source: u16, link: &mut L) -> Stepped
-    requires register { source < length m.old.machine.top.registers }
-    requires small { All (λ v. v < 2 ^ 44) m.old.machine.top.registers }
-    requires place { m.old.machine.top.place < 2 ^ 18 }
-    ensures tries { (w : WorldState) → TriesBy true false (λ meet. quiet w (checks meet (word_of Check site.0 (register m.old.machine source)) m.old)) m.old w result m.new w []
-        (shown (L.sent link.old) (L.taken link.old) (L.gone link.old) (L.asks link.old) (L.last link.old))
-        (shown (L.sent link.new) (L.taken link.new) (L.gone link.new) (L.asks link.new) (L.last link.new)) }
-    ensures made { L.made link.new ≡ L.made link.old }
-    ensures stays_gone { L.gone link.old ≡ true → L.gone link.new ≡ true }
+    requires register { source < length m.old.at.machine.top.registers }
+    requires small { HoldsSmall m.old }
+    requires near { IsNear m.old }
+    ensures tries { (w : WorldState) → TriesBy true false
+        (λ meet. quiet w (checks meet (word_of Check site.0 (holds m.old source)) m.old))
+        m.old w result m.new w [] (L.shows link.old) (L.shows link.new) }
+    ensures later { IsLater (L.shows link.old) (L.shows link.new) }
 {
     let own = pack(Kind::Check, site, m.register(source));
     match link.take() {
         Taken::NotYet => Stepped::NotYet,
         Taken::Closed => Stepped::Ended(ThreadEnd::PeerEnded),
         Taken::Word(word) => {
+            // The name is for the proof, which cites what the call answers.
             let stepped = compare(m, own, word);
             stepped
         }
@@ -58,16 +58,15 @@ fn check_word<L: Link>(m: &mut Machine, site: Site, source: u16, link: &mut L) -
 /// nothing. The machine was started with `Side::Trail` and has not ended.
 pub fn trail_step<L: Link>(pair: &Pair, m: &mut Machine, link: &mut L) -> Stepped
     requires fits { SideFits Trail pair.now m.old }
-    requires countable { length (L.sent link.old) < 2 ^ 62 }
+    requires countable { SentBelow (2 ^ 62) (L.shows link.old) }
 
     // The world is the leading side's, and stays as it is.
-    ensures step { (w : WorldState) → Tries Trail pair.now m.old w result m.new w []
-        (shown (L.sent link.old) (L.taken link.old) (L.gone link.old) (L.asks link.old) (L.last link.old))
-        (shown (L.sent link.new) (L.taken link.new) (L.gone link.new) (L.asks link.new) (L.last link.new)) }
+    ensures step { (w : WorldState)
+        → Tries Trail pair.now m.old w result m.new w [] (L.shows link.old) (L.shows link.new) }
     ensures fits { FitsAfter result Trail pair.now m.new }
-    ensures made { L.made link.new ≡ L.made link.old }
-    ensures stays_gone { L.gone link.old ≡ true → L.gone link.new ≡ true }
+    ensures later { IsLater (L.shows link.old) (L.shows link.new) }
 {
+    // The call is for the proof: a pair is one of a program of the first form.
     let _pair = pair.classed();
     let Some(line) = pair.trailing_at(m.function, m.place) else {
         unreachable!()
@@ -81,13 +80,27 @@ pub fn trail_step<L: Link>(pair: &Pair, m: &mut Machine, link: &mut L) -> Steppe
             let stepped = check_word(m, *site, *source, link);
             stepped
         }
-        VersionOp::Ack { site, args } => {
-            let stepped = send_operands(m, Kind::Ack, *site, args, link);
+        VersionOp::Ack { site, operands } => {
+            let stepped = send_operands(m, Kind::Ack, *site, operands, link);
             stepped
         }
         VersionOp::End { source } => {
             Stepped::Ended(ThreadEnd::Exit((m.register(*source) % 256) as u8))
         }
-        VersionOp::Ask { .. } | VersionOp::Await { .. } | VersionOp::Act { .. } => unreachable!(),
+        VersionOp::SharedLoad { .. }
+        | VersionOp::SharedStore { .. }
+        | VersionOp::SharedOpen { .. }
+        | VersionOp::SharedClose { .. }
+        | VersionOp::Ask { .. }
+        | VersionOp::Await { .. }
+        | VersionOp::Act { .. }
+        | VersionOp::Enter { .. }
+        | VersionOp::Callback { .. }
+        | VersionOp::CheckZero { .. }
+        | VersionOp::CheckStored { .. }
+        | VersionOp::Take { .. }
+        | VersionOp::TakeDone { .. }
+        | VersionOp::CheckOpen { .. }
+        | VersionOp::CheckClose { .. } => unreachable!(),
     }
 }

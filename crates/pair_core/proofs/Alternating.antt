@@ -4,13 +4,13 @@ use Rattle.srmt_base.specs.declared.event.Event.{Event}
 use Rattle.srmt_base.specs.declared.limits.Limits.{Limits}
 use Rattle.srmt_base.specs.declared.side.Side.{Side}
 use Rattle.srmt_base.specs.declared.side.Side.TheVariants.{Lead, Trail}
-use Rattle.srmt_outside.specs.Count.{Rose}
-use Rattle.mid_code.specs.declared.program.MidProgram.{MidProgram}
+use Rattle.mid_code.specs.Classes.{SharedProgram}
 use Rattle.mid_code.specs.Pairs.{HasSites}
 use Rattle.machine.specs.declared.stepped.Stepped.{Stepped}
 use Rattle.machine.specs.declared.stepped.Stepped.TheVariants.{Went as Made, NotYet, Ended as MadeLast}
 use Rattle.machine.specs.Side.{SideState, Outcome, Went, Ended, opening as opening_side}
 use Rattle.machine.proofs.Fitting.{fits_opening}
+use Rattle.machine.specs.Upset.{no_upsets}
 use Rattle.pair_core.specs.Duo.{DuoState, view_of, Turned, turn_at, turn_of, Reached}
 use Rattle.pair_core.specs.Laws.{CanGo}
 use Rattle.pair_core.specs.Turns.{DuoFits, IsCountable, Turns}
@@ -34,11 +34,11 @@ abbrev pub idle_at : Outcome → Stepped → ℕ
 idle_at (Went s) stepped = idle_by stepped
 idle_at (Ended end) stepped = 1
 
-abbrev pub idle : MidProgram → Side → DuoState → ℕ
-idle program side duo = idle_at (view_of side duo).at (turn_of program side None duo).stepped
+abbrev pub idle : SharedProgram → Side → DuoState → ℕ
+idle program side duo = idle_at (view_of side duo).at (turn_of program no_upsets side None duo).stepped
 
 -- how much is to go where it is the turn of this side
-abbrev pub turns_left : MidProgram → Side → DuoState → ℕ
+abbrev pub turns_left : SharedProgram → Side → DuoState → ℕ
 turns_left program side duo = 2 * duo_left program duo + idle program side duo
 
 idle_made : (stepped : Stepped) → stepped ≢ NotYet → idle_by stepped ≡ 0
@@ -50,8 +50,8 @@ idle_going : (o : Outcome) (stepped : Stepped) → ((s : SideState) → o ≡ We
 idle_going (Went s) stepped none goes = none s refl
 idle_going (Ended end) stepped none goes = absurd (goes end refl)
 
-can_idle : (program : MidProgram) (side : Side) (duo : DuoState) → CanGo program side duo → idle program side duo ≡ 0
-can_idle program side duo can = idle_going (view_of side duo).at (turn_of program side None duo).stepped (λ s at. idle_made (turn_of program side None duo).stepped can.goes) can.goes_on
+can_idle : (program : SharedProgram) (side : Side) (duo : DuoState) → CanGo program no_upsets side duo → idle program side duo ≡ 0
+can_idle program side duo can = idle_going (view_of side duo).at (turn_of program no_upsets side None duo).stepped (λ s at. idle_made (turn_of program no_upsets side None duo).stepped can.goes) can.goes_on
 
 idle_few : (stepped : Stepped) → idle_by stepped ≤ 1
 idle_few Made = omega arith
@@ -62,17 +62,17 @@ idle_most : (o : Outcome) (stepped : Stepped) → idle_at o stepped ≤ 1
 idle_most (Went s) stepped = idle_few stepped
 idle_most (Ended end) stepped = omega arith
 
-module _ (program : MidProgram) (input : List ℕ) (limits : Limits) (duo : DuoState) (events : List Event) (sites : HasSites program) (reached : Reached program input limits duo events) (going : BothOver duo → ⊥) where
+module _ (program : SharedProgram) (input : List ℕ) (limits : Limits) (duo : DuoState) (events : List Event) (sites : HasSites program) (reached : Reached program input limits no_upsets duo events) (going : BothOver duo → ⊥) where
   -- where one side cannot go the other can
-  other_goes : (side : Side) → (CanGo program side duo → ⊥) → CanGo program (other_side side) duo
+  other_goes : (side : Side) → (CanGo program no_upsets side duo → ⊥) → CanGo program no_upsets (other_side side) duo
   other_goes Lead cannot =
-      elim (sound_reached program input limits duo events sites reached).goes as (λ _. CanGo program Trail duo) [
+      elim (sound_reached program input limits duo events sites reached).ends_well.goes as (λ _. CanGo program no_upsets Trail duo) [
         | inl can ↦ absurd (cannot can)
         | inr (inl can) ↦ can
         | inr (inr both) ↦ absurd (going both)
       ]
   other_goes Trail cannot =
-      elim (sound_reached program input limits duo events sites reached).goes as (λ _. CanGo program Lead duo) [
+      elim (sound_reached program input limits duo events sites reached).ends_well.goes as (λ _. CanGo program no_upsets Lead duo) [
         | inl can ↦ can
         | inr (inl can) ↦ absurd (cannot can)
         | inr (inr both) ↦ absurd (going both)
@@ -80,10 +80,10 @@ module _ (program : MidProgram) (input : List ℕ) (limits : Limits) (duo : DuoS
 
   module _ (side : Side) (fails : Option ℕ) where
     abbrev turned : Turned
-    turned = turn_of program side fails duo
+    turned = turn_of program no_upsets side fails duo
 
     -- the side could not go, and it is the other's turn
-    passed_on : (stepped : Stepped) → turned.state ≡ duo → next_turn stepped side ≡ other_side side → (CanGo program side duo → ⊥) → idle program side duo ≡ 1 → turns_left program (next_turn stepped side) turned.state < turns_left program side duo
+    passed_on : (stepped : Stepped) → turned.state ≡ duo → next_turn stepped side ≡ other_side side → (CanGo program no_upsets side duo → ⊥) → idle program side duo ≡ 1 → turns_left program (next_turn stepped side) turned.state < turns_left program side duo
     passed_on stepped same next cannot one =
         let none = can_idle program (other_side side) duo (other_goes side cannot) in
         let state : turns_left program (next_turn stepped side) turned.state ≡ turns_left program (other_side side) duo = ap (λ x. turns_left program x turned.state) next ∙ ap (turns_left program (other_side side)) same in
@@ -95,7 +95,7 @@ module _ (program : MidProgram) (input : List ℕ) (limits : Limits) (duo : DuoS
     -- the side made a step
     went_on : (s : SideState) → (view_of side duo).at ≡ Went s → turned.stepped ≢ NotYet → turns_left program (next_turn turned.stepped side) turned.state < turns_left program side duo
     went_on s at goes =
-        less_left _ _ _ _ (reached_lowers program input limits duo events sites reached side fails s at goes) (idle_most (view_of (next_turn turned.stepped side) turned.state).at (turn_of program (next_turn turned.stepped side) None turned.state).stepped)
+        less_left _ _ _ _ (reached_lowers program input limits duo events sites reached side fails s at goes) (idle_most (view_of (next_turn turned.stepped side) turned.state).at (turn_of program no_upsets (next_turn turned.stepped side) None turned.state).stepped)
       where
         less_left : (n l a b : ℕ) → n < l → a ≤ 1 → 2 * n + a < 2 * l + b
         less_left n l a b less few = omega arith
@@ -106,30 +106,30 @@ module _ (program : MidProgram) (input : List ℕ) (limits : Limits) (duo : DuoS
     by_stepped s at NotYet e =
         let waits = waits_too program side fails None duo e in
         passed_on turned.stepped (turn_waits program side fails duo e).0 (ap (λ x. next_turn x side) e) (λ can. can.goes waits)
-        (ap (λ o. idle_at o (turn_of program side None duo).stepped) at ∙ ap idle_by waits)
+        (ap (λ o. idle_at o (turn_of program no_upsets side None duo).stepped) at ∙ ap idle_by waits)
 
     by_outcome : (o : Outcome) → (view_of side duo).at ≡ o → turns_left program (next_turn turned.stepped side) turned.state < turns_left program side duo
     by_outcome (Went s) at = by_stepped s at turned.stepped refl
     by_outcome (Ended end) at =
         let same : turned ≡ turn_at (Ended end) side program fails duo = ap (λ o. turn_at o side program fails duo) at in
         passed_on turned.stepped (ap (λ t. t.state) same) (ap (λ t. next_turn t.stepped side) same) (λ can. can.goes_on end at)
-        (ap (λ o. idle_at o (turn_of program side None duo).stepped) at)
+        (ap (λ o. idle_at o (turn_of program no_upsets side None duo).stepped) at)
 
     pub turn_lowers : turns_left program (next_turn turned.stepped side) turned.state < turns_left program side duo
     turn_lowers = by_outcome (view_of side duo).at refl
 
 -- the same, by what an event of the code leads to
-pub turns_lower : (program : MidProgram) (input : List ℕ) (limits : Limits) (duo : DuoState) (events : List Event) → HasSites program → Reached program input limits duo events → (BothOver duo → ⊥) →
-    (side : Side) (fails : Option ℕ) (after : DuoState) (stepped : Stepped) (more : List Event) → Turns program side fails duo after stepped more → turns_left program (next_turn stepped side) after < turns_left program side duo
+pub turns_lower : (program : SharedProgram) (input : List ℕ) (limits : Limits) (duo : DuoState) (events : List Event) → HasSites program → Reached program input limits no_upsets duo events → (BothOver duo → ⊥) →
+    (side : Side) (fails : Option ℕ) (after : DuoState) (stepped : Stepped) (more : List Event) → Turns program no_upsets side fails duo after stepped more → turns_left program (next_turn stepped side) after < turns_left program side duo
 turns_lower program input limits duo events sites reached going side fails after stepped more turns =
     subst (λ t. turns_left program (next_turn t.stepped side) t.state < turns_left program side duo) turns (turn_lowers program input limits duo events sites reached going side fails)
 
-pub turns_reach : (program : MidProgram) (input : List ℕ) (limits : Limits) (duo : DuoState) (events : List Event) → Reached program input limits duo events →
-    (side : Side) (fails : Option ℕ) (after : DuoState) (stepped : Stepped) (more : List Event) → Turns program side fails duo after stepped more → Reached program input limits after (events ++ more)
+pub turns_reach : (program : SharedProgram) (input : List ℕ) (limits : Limits) (duo : DuoState) (events : List Event) → Reached program input limits no_upsets duo events →
+    (side : Side) (fails : Option ℕ) (after : DuoState) (stepped : Stepped) (more : List Event) → Turns program no_upsets side fails duo after stepped more → Reached program input limits no_upsets after (events ++ more)
 turns_reach program input limits duo events reached side fails after stepped more turns =
-    subst (λ t. Reached program input limits t.state (events ++ t.events)) turns (reached_turn program input limits duo events reached side fails)
+    subst (λ t. Reached program input limits no_upsets t.state (events ++ t.events)) turns (reached_turn program input limits duo events reached side fails)
 
-pub countable : (program : MidProgram) (input : List ℕ) (limits : Limits) (duo : DuoState) (events : List Event) → HasSites program → Reached program input limits duo events → IsCountable duo
+pub countable : (program : SharedProgram) (input : List ℕ) (limits : Limits) (duo : DuoState) (events : List Event) → HasSites program → Reached program input limits no_upsets duo events → IsCountable duo
 countable program input limits duo events sites reached =
     let c = counted_reached program input limits sites duo events reached in
     record {
@@ -140,29 +140,12 @@ countable program input limits duo events sites reached =
     }
 
 -- the answer where both have ended
-pub answered_so : (program : MidProgram) (input : List ℕ) (limits : Limits) (duo : DuoState) (events : List Event) → HasSites program → Reached program input limits duo events → (ran : Ran) → IsRan duo ran →
-    IsAnswer program input limits events ran × FollowsIdeal program input limits events ran
+pub answered_so : (program : SharedProgram) (input : List ℕ) (limits : Limits) (duo : DuoState) (events : List Event) → HasSites program → Reached program input limits no_upsets duo events → (ran : Ran) → IsRan duo ran →
+    IsAnswer program input limits no_upsets events ran × FollowsIdeal program input limits events ran
 answered_so program input limits duo events sites reached ran is =
-    subst (λ r. IsAnswer program input limits events r × FollowsIdeal program input limits events r) (sym is.4)
+    subst (λ r. IsAnswer program input limits no_upsets events r × FollowsIdeal program input limits events r) (sym is.4)
     (is_answer program input limits duo events sites reached is.0 is.1 is.2 is.3, follows_ideal program input limits duo events sites reached is.0 is.1 is.2 is.3)
 
--- a fault that was counted stays counted
-rose_before : (a b c : ℕ) → b ≤ c → Rose a b → Rose a c
-rose_before a b c more rose = omega arith
-
-rose_after : (a b c : ℕ) → a ≤ b → Rose b c → Rose a c
-rose_after a b c more rose = omega arith
-
-pub rose_on : (before now : Type 0) (a b c : ℕ) → (before → Rose a b) → a ≤ b → b ≤ c → (now → before ⊎ Rose b c) → now → Rose a c
-rose_on before now a b c so_far first second step h =
-    elim (step h) as (λ _. Rose a c) [
-      | inl old ↦ rose_before a b c second (so_far old)
-      | inr new ↦ rose_after a b c first new
-    ]
-
-pub opening_fits : (program : MidProgram) (duo : DuoState) → HasSites program → IsOpening program duo → DuoFits program duo
+pub opening_fits : (program : SharedProgram) (duo : DuoState) → HasSites program → IsOpening program duo → DuoFits program duo
 opening_fits program duo sites opening =
     subst (DuoFits program) (sym opening.2) (record { lead = fits_opening Lead program opening.1 sites; trail = fits_opening Trail program opening.1 sites; world = refl })
-
-pub opening_goes : (program : MidProgram) (duo : DuoState) (end : _) → IsOpening program duo → duo.lead ≡ Ended end → ⊥
-opening_goes program duo end opening h = let clash : Went (opening_side program opening.1) ≡ Ended end = sym (ap (λ d. d.lead) opening.2) ∙ h in cc

@@ -4,7 +4,7 @@ use Rattle.srmt_base.specs.declared.limits.Limits.{Limits}
 use Rattle.srmt_base.specs.declared.side.Side.TheVariants.{Lead, Trail}
 use Rattle.srmt_base.specs.declared.trap.SourceEnd.{SourceEnd}
 use Rattle.srmt_base.specs.declared.trap.SourceEnd.TheVariants.{Exit as SourceExit, Trap as SourceTrap}
-use Rattle.mid_code.specs.declared.program.MidProgram.{MidProgram}
+use Rattle.mid_code.specs.Classes.{SharedProgram}
 use Rattle.mid_code.specs.Pairs.{HasSites}
 use Rattle.word_stream.specs.Exchange.{checks_of}
 use Rattle.world.specs.World.{ask}
@@ -19,7 +19,7 @@ use Rattle.pair_core.specs.Duo.{is_over}
 use Rattle.pair_core.specs.Laws.{end_as, IsCleanEnd, IsClean}
 use Rattle.pair_core.proofs.Pasts.{same_state}
 use Rattle.pair_core.proofs.Prefixes.{prefix_refl, prefix_take}
-use Rattle.pair_core.proofs.Groups.{next_line, never_dies, never_lost}
+use Rattle.pair_core.proofs.Groups.{next_line, trail_side, never_dies, never_lost}
 use Rattle.pair_core.proofs.Steps.{lead_runs_takes, trail_runs_takes, trail_runs_sends}
 use Rattle.pair_core.proofs.Exchanges.{checks_some, lead_asks_takes, lead_acts_takes, lead_hears_takes, trail_checks_takes, trail_acks_takes, trail_ends_takes, trail_ends_sends}
 use Rattle.pair_core.proofs.Ideals.{stands_point, stands_owed, asked_words, asked_echoes, asked_events}
@@ -39,7 +39,7 @@ pub not_fault : (end : SourceEnd) → end_as end ≡ WriteFault → ⊥
 not_fault (SourceExit status) h = cc
 not_fault (SourceTrap trap line) h = cc
 
-module _ (program : MidProgram) (input : List ℕ) (limits : Limits) (sites : HasSites program) where
+module _ (program : SharedProgram) (input : List ℕ) (limits : Limits) (sites : HasSites program) where
   -- the leading side
   module _ (i : ℕ) (past : Past) where
     pub lead_words : LeadAt program (ideal program input limits i) past → (k : ℕ) × IsPrefix past.sent (ideal program input limits k).words
@@ -89,11 +89,11 @@ module _ (program : MidProgram) (input : List ℕ) (limits : Limits) (sites : Ha
           start_takes (Runs next) h =
               let stands = stands_point program input limits sites i m here in
               let no : true ≡ false = sym takes ∙ ap (λ t. takes_at (side_op Lead program t)) (same_state past s _ at shows.at_so) ∙ lead_runs_takes program m stands (next_line program m stands) next h in cc
-          start_takes (Dies trap line) h = let stands = stands_point program input limits sites i m here in never_dies program m stands (next_line program m stands) trap line h
+          start_takes (Dies words trap line) h = let stands = stands_point program input limits sites i m here in never_dies program m stands (next_line program m stands) words trap line h
           start_takes (Requests q) h =
               let stands = stands_point program input limits sites i m here in
               let no : true ≡ false = sym takes ∙ ap (λ t. takes_at (side_op Lead program t)) (same_state past s _ at shows.at_so) ∙ lead_asks_takes program m stands q h in cc
-          start_takes Lost h = let stands = stands_point program input limits sites i m here in never_lost program m stands (next_line program m stands) h
+          start_takes (Lost words) h = let stands = stands_point program input limits sites i m here in never_lost program m stands (next_line program m stands) words h
       lead_hearing (LeadAwaits m q heard x rest here h acks shows) takes =
           let all : (ideal program input limits (suc i)).echoes ≡ ((ideal program input limits i).echoes ++ heard) ++ x ∷ rest =
           asked_echoes program input limits sites i m q here h ∙ ap (λ t. (ideal program input limits i).echoes ++ t) acks ∙ sym (append_assoc (ideal program input limits i).echoes heard (x ∷ rest)) in (
@@ -141,6 +141,15 @@ module _ (program : MidProgram) (input : List ℕ) (limits : Limits) (sites : Ha
     trail_clean (TrailEnded end ended tells) = subst IsClean (sym tells.at_so) (clean_as end)
     trail_clean (TrailGone m q done x rest here h checks tells gone) = subst IsClean (sym tells.at_so) tt
 
+    -- it never ends by an event that failed
+    pub trail_no_fault : TrailAt program (ideal program input limits j) quit past → past.at ≡ Ended WriteFault → ⊥
+    trail_no_fault (TrailStarts m here tells) h = let both : Ended WriteFault ≡ Went (trail_side program m 0) = sym h ∙ tells.at_so in cc
+    trail_no_fault (TrailChecks m q done x rest here w checks tells) h = let both : Ended WriteFault ≡ Went (trail_side program m (length done)) = sym h ∙ tells.at_so in cc
+    trail_no_fault (TrailAcks m q here w tells) h = let both : Ended WriteFault ≡ Went (trail_side program m (length (checks_of q))) = sym h ∙ tells.at_so in cc
+    trail_no_fault (TrailEnding m q r end owed w over tells) h = let both : Ended WriteFault ≡ Went (trail_side program m (suc (length (checks_of q)))) = sym h ∙ tells.at_so in cc
+    trail_no_fault (TrailEnded end ended tells) h = not_fault end (let both : Ended (end_as end) ≡ Ended WriteFault = sym tells.at_so ∙ h in cc)
+    trail_no_fault (TrailGone m q done x rest here w checks tells gone) h = let both : Ended WriteFault ≡ Ended PeerEnded = sym h ∙ tells.at_so in cc
+
     -- how it has ended: as the ideal run, or because no word will come
     pub trail_final : TrailAt program (ideal program input limits j) quit past → is_over past.at ≡ true →
         ((end : SourceEnd) × ((ideal program input limits j).place ≡ PlaceEnded end) × (past.at ≡ Ended (end_as end)) × (past.took ≡ (ideal program input limits j).words)) ⊎ quit past.took
@@ -160,12 +169,12 @@ module _ (program : MidProgram) (input : List ℕ) (limits : Limits) (sites : Ha
           start_takes (Runs next) h =
               let stands = stands_point program input limits sites j m here in
               let no : true ≡ false = sym takes ∙ ap (λ t. takes_at (side_op Trail program t)) (same_state past s _ at tells.at_so) ∙ trail_runs_takes program m stands (next_line program m stands) next h in absurd (cc)
-          start_takes (Dies trap line) h = let stands = stands_point program input limits sites j m here in absurd (never_dies program m stands (next_line program m stands) trap line h)
+          start_takes (Dies words trap line) h = let stands = stands_point program input limits sites j m here in absurd (never_dies program m stands (next_line program m stands) words trap line h)
           start_takes (Requests q) h =
               let stands = stands_point program input limits sites j m here in
               let some = checks_some program m stands q h in
               omega (arith, ap length tells.took_so, ap length (asked_words program input limits sites j m q here h), length-append (ideal program input limits j).words (checks_of q), ap length some.2)
-          start_takes Lost h = let stands = stands_point program input limits sites j m here in absurd (never_lost program m stands (next_line program m stands) h)
+          start_takes (Lost words) h = let stands = stands_point program input limits sites j m here in absurd (never_lost program m stands (next_line program m stands) words h)
       trail_checking (TrailChecks m q done x rest here h checks tells) takes =
           omega (arith, ap length tells.took_so, ap length (asked_words program input limits sites j m q here h), length-append (ideal program input limits j).words (checks_of q), length-append (ideal program input limits j).words done, ap length checks, length-append done (x ∷ rest))
       trail_checking (TrailAcks m q here h tells) takes =
@@ -186,12 +195,12 @@ module _ (program : MidProgram) (input : List ℕ) (limits : Limits) (sites : Ha
           start_sends (Runs next) h =
               let stands = stands_point program input limits sites j m here in
               let no : true ≡ false = sym sends ∙ ap (λ t. may_send_at (side_op Trail program t)) (same_state past s _ at tells.at_so) ∙ trail_runs_sends program m stands (next_line program m stands) next h in cc
-          start_sends (Dies trap line) h = let stands = stands_point program input limits sites j m here in never_dies program m stands (next_line program m stands) trap line h
+          start_sends (Dies words trap line) h = let stands = stands_point program input limits sites j m here in never_dies program m stands (next_line program m stands) words trap line h
           start_sends (Requests q) h =
               let stands = stands_point program input limits sites j m here in
               let some = checks_some program m stands q h in
               let no : false ≡ true = sym takes ∙ ap (λ t. takes_at (side_op Trail program t)) (same_state past s _ at tells.at_so) ∙ trail_checks_takes program m stands q h [] some.0 some.1 some.2 in cc
-          start_sends Lost h = let stands = stands_point program input limits sites j m here in never_lost program m stands (next_line program m stands) h
+          start_sends (Lost words) h = let stands = stands_point program input limits sites j m here in never_lost program m stands (next_line program m stands) words h
       trail_acking (TrailChecks m q done x rest here h checks tells) takes sends =
           let stands = stands_point program input limits sites j m here in
           let no : false ≡ true = sym takes ∙ ap (λ t. takes_at (side_op Trail program t)) (same_state past s _ at tells.at_so) ∙ trail_checks_takes program m stands q h done x rest checks in absurd (cc)

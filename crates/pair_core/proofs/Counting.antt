@@ -5,16 +5,17 @@ use Rattle.srmt_base.specs.declared.event.Event.{Event}
 use Rattle.srmt_base.specs.declared.limits.Limits.{Limits}
 use Rattle.srmt_base.specs.declared.side.Side.{Side}
 use Rattle.srmt_base.specs.declared.side.Side.TheVariants.{Lead, Trail}
-use Rattle.mid_code.specs.declared.program.MidProgram.{MidProgram}
+use Rattle.mid_code.specs.Classes.{SharedProgram}
 use Rattle.mid_code.specs.declared.version.Version.{Version}
 use Rattle.mid_code.specs.declared.version.VersionLine.{VersionLine}
 use Rattle.mid_code.specs.Pairs.{HasSites}
-use Rattle.mid_code.specs.Start.{started_machine}
+use Rattle.world.specs.Standing.{started_standing}
 use Rattle.mid_code.proofs.Values.{one_within}
 use Rattle.machine.specs.Side.{SideState, Plain, Outcome, Went, Ended}
 use Rattle.machine.specs.Steps.{versions_of, side_op, takes_at}
 use Rattle.machine.specs.Meets.{next_of, CanMeet}
 use Rattle.machine.proofs.Placed.{placed}
+use Rattle.machine.specs.Upset.{no_upsets}
 use Rattle.pair_core.specs.Duo.{DuoState, opening_duo, view_of, Finds, Waits, Meets, finds, turn_found, turn_at, turn_of, Entry, Scheduled, run_on, scheduled, Reached}
 use Rattle.pair_core.proofs.Finding.{IsFound, found, alike}
 use Rattle.pair_core.proofs.Duos.{Good, Quits, good_opening, good_turn, lead_meets, trail_meets, can_trail}
@@ -22,10 +23,10 @@ use Rattle.pair_core.proofs.Measure.{long_of, version_long, side_left, duo_left,
 
 -- so many steps can be counted in all
 abbrev pub step_bound : ℕ
-step_bound = 2 ^ 24
+step_bound = 2 ^ 27
 
 -- how many steps and words were counted, beside what is left
-pub record Counted (program : MidProgram) (duo : DuoState) : Type 0 where
+pub record Counted (program : SharedProgram) (duo : DuoState) : Type 0 where
   pub steps : duo.lead_steps + duo.trail_steps + duo_left program duo ≤ step_bound
   pub words : duo.words_sent ≤ 18 * duo.lead_steps
   pub acks : duo.acks_sent ≤ 18 * duo.trail_steps
@@ -39,7 +40,7 @@ trail_sum a b n l r k bound e less c = omega arith
 more_words : (w a n : ℕ) → w ≤ 18 * a → n ≤ 18 → w + n ≤ 18 * (a + 1)
 more_words w a n h few = omega arith
 
-module _ (program : MidProgram) (input : List ℕ) (limits : Limits) (sites : HasSites program) (duo : DuoState) (events : List Event) (g : Good program input limits duo events) (c : Counted program duo) where
+module _ (program : SharedProgram) (input : List ℕ) (limits : Limits) (sites : HasSites program) (duo : DuoState) (events : List Event) (g : Good program input limits duo events) (c : Counted program duo) where
   lead_counted : (s : SideState) → duo.lead ≡ Went s → (f : Finds) → IsFound (takes_at (side_op Lead program s)) (length (next_of Lead program s duo.world Plain).events) (view_of Lead duo) f → Counted program (turn_found f Lead program s duo).state
   lead_counted s at Waits h = c
   lead_counted s at (Meets meet left) h =
@@ -72,16 +73,16 @@ module _ (program : MidProgram) (input : List ℕ) (limits : Limits) (sites : Ha
   trail_turned fails (Went s) at = trail_counted s at (finds Trail program s duo.world fails (view_of Trail duo)) (found Trail program s duo.world fails (view_of Trail duo))
   trail_turned fails (Ended end) at = c
 
-  turn_counted : (side : Side) (fails : Option ℕ) → Counted program (turn_of program side fails duo).state
+  turn_counted : (side : Side) (fails : Option ℕ) → Counted program (turn_of program no_upsets side fails duo).state
   turn_counted Lead fails = lead_turned fails duo.lead refl
   turn_counted Trail fails = trail_turned fails duo.trail refl
 
 -- no version is long
-module _ (side : Side) (program : MidProgram) (sites : HasSites program) where
-  short_one : (function : ℕ) (o : Option Version) → ((place : ℕ) (l : VersionLine) → option_and_then (λ v. slice_get v.code place) o ≡ Some l → place < 2 ^ 18) → long_of o ≤ 2 ^ 18
+module _ (side : Side) (program : SharedProgram) (sites : HasSites program) where
+  short_one : (function : ℕ) (o : Option Version) → ((place : ℕ) (l : VersionLine) → option_and_then (λ v. slice_get v.code place) o ≡ Some l → place < 2 ^ 21) → long_of o ≤ 2 ^ 21
   short_one function None small = omega arith
   short_one function (Some v) small =
-      elim (cases_lt 0 (length v.code)) as (λ _. length v.code ≤ 2 ^ 18) [
+      elim (cases_lt 0 (length v.code)) as (λ _. length v.code ≤ 2 ^ 21) [
         | inl some ↦
             let last : length v.code - 1 < length v.code = omega arith in
             let one = one_within v.code (length v.code - 1) last in
@@ -89,28 +90,28 @@ module _ (side : Side) (program : MidProgram) (sites : HasSites program) where
         | inr none ↦ omega arith
       ]
 
-  short_version : (function : ℕ) → version_long (versions_of side program) function ≤ 2 ^ 18
+  short_version : (function : ℕ) → version_long (versions_of side program) function ≤ 2 ^ 21
   short_version zero = omega arith
   short_version (suc before) =
       short_one (suc before) (slice_get (versions_of side program) before) (λ place l at. (placed side program (suc before) place l sites at).small)
 
-module _ (program : MidProgram) (input : List ℕ) (limits : Limits) (sites : HasSites program) where
+module _ (program : SharedProgram) (input : List ℕ) (limits : Limits) (sites : HasSites program) where
   counted_opening : Counted program (opening_duo program input limits)
   counted_opening = record {
-    steps = omega (arith, short_version Lead program sites (started_machine program limits).top.function, short_version Trail program sites (started_machine program limits).top.function);
+    steps = omega (arith, short_version Lead program sites (started_standing program.program limits).machine.top.function, short_version Trail program sites (started_standing program.program limits).machine.top.function);
     words = omega arith;
     acks = omega arith;
   }
 
-  counted_run : (entries : List Entry) (sofar : Scheduled) → Good program input limits sofar.duo sofar.events → Counted program sofar.duo → Counted program (run_on program sofar entries).duo
+  counted_run : (entries : List Entry) (sofar : Scheduled) → Good program input limits sofar.duo sofar.events → Counted program sofar.duo → Counted program (run_on program no_upsets sofar entries).duo
   counted_run [] sofar g c = c
   counted_run (entry ∷ entries) sofar g c =
-      counted_run entries (record { duo = (turn_of program entry.side entry.fails sofar.duo).state; events = sofar.events ++ (turn_of program entry.side entry.fails sofar.duo).events })
+      counted_run entries (record { duo = (turn_of program no_upsets entry.side entry.fails sofar.duo).state; events = sofar.events ++ (turn_of program no_upsets entry.side entry.fails sofar.duo).events })
       (good_turn program input limits sites sofar.duo sofar.events g entry.side entry.fails)
       (turn_counted program input limits sites sofar.duo sofar.events g c entry.side entry.fails)
 
-  pub counted_scheduled : (entries : List Entry) → Counted program (scheduled program input limits entries).duo
+  pub counted_scheduled : (entries : List Entry) → Counted program (scheduled program input limits no_upsets entries).duo
   counted_scheduled entries = counted_run entries (record { duo = opening_duo program input limits; events = [] }) (good_opening program input limits sites) counted_opening
 
-  pub counted_reached : (duo : DuoState) (events : List Event) → Reached program input limits duo events → Counted program duo
+  pub counted_reached : (duo : DuoState) (events : List Event) → Reached program input limits no_upsets duo events → Counted program duo
   counted_reached duo events reached = subst (λ x. Counted program x.duo) reached.1 (counted_scheduled reached.0)

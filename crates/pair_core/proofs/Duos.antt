@@ -1,5 +1,5 @@
 -- Both sides beside the ideal run, after every event of the core.
-use Rattle.std.proofs.Common.{◌≡◌, ℕ, suc, ◌+◌, ◌≤◌, inl, inr, Bool, true, false, List, [], ◌∷◌, ◌++◌, length, Option, Some, None, refl, sym, ap, ap₂, ◌∙◌, subst, subst₂, arith, length-append, append_assoc, append-nil}
+use Rattle.std.proofs.Common.{◌≡◌, ℕ, suc, ◌+◌, ◌≤◌, inl, inr, Bool, true, false, ◌||◌, List, [], ◌∷◌, ◌++◌, length, Option, Some, None, refl, sym, ap, ap₂, ◌∙◌, subst, subst₂, arith, length-append, append_assoc, append-nil}
 use Rattle.std.proofs.lemmas.Bool.{cases_lt}
 use Rattle.srmt_base.specs.declared.event.Event.{Event}
 use Rattle.srmt_base.specs.declared.limits.Limits.{Limits}
@@ -7,23 +7,23 @@ use Rattle.srmt_base.specs.declared.side.Side.{Side}
 use Rattle.srmt_base.specs.declared.side.Side.TheVariants.{Lead, Trail}
 use Rattle.srmt_base.specs.declared.trap.SourceEnd.{SourceEnd}
 use Rattle.mid_code.specs.declared.program.MidFunction.{MidFunction}
-use Rattle.mid_code.specs.declared.program.MidProgram.{MidProgram}
-use Rattle.mid_code.specs.Start.{started_machine}
+use Rattle.mid_code.specs.Classes.{SharedProgram}
+use Rattle.world.specs.Standing.{Own, started_own, started_standing}
 use Rattle.mid_code.specs.Program.{function_at}
 use Rattle.mid_code.specs.Pairs.{HasSites}
-use Rattle.mid_code.specs.declared.mid.Mid.{Mid}
-use Rattle.mid_code.specs.declared.version.VersionOp.{VersionOp}
-use Rattle.mid_code.specs.Versions.{leading_ops, trailing_ops}
+use Rattle.mid_code.specs.declared.class.Class.{Class}
+use Rattle.mid_code.specs.Versions.{Table, leading, trailing}
 use Rattle.world.specs.Ideal.{Ended as PlaceEnded, ideal}
-use Rattle.mid_code.proofs.Starting.{with_main}
+use Rattle.mid_code.proofs.StartFits.{with_main}
 use Rattle.verdicts.specs.declared.thread_end.ThreadEnd.TheVariants.{WriteFault}
 use Rattle.machine.specs.Side.{SideState, Meet, Plain, Got, Closed, Failed, Outcome, Went, Ended, StepGives}
 use Rattle.machine.specs.Steps.{side_op, takes_at}
 use Rattle.machine.specs.Meets.{MeetsBy, next_of, CanMeet}
+use Rattle.machine.specs.Upset.{no_upsets}
 use Rattle.pair_core.specs.History.{Past, opening_past, word_met, grown, HasPast}
 use Rattle.pair_core.specs.Duo.{DuoState, opening_duo, is_over, view_of, Finds, Waits, Meets, finds, put_on, made, turn_found, turn_at, turn_of, Entry, Scheduled, run_on, scheduled}
 use Rattle.pair_core.proofs.Prefixes.{none_added, prefix_length, prefix_trans}
-use Rattle.pair_core.proofs.Groups.{group_start, put_at, within_group}
+use Rattle.pair_core.proofs.Groups.{classes_row, group_start, put_at, within_group}
 use Rattle.pair_core.proofs.Ideals.{grows, below_end}
 use Rattle.pair_core.proofs.Lead.{LeadAt, LeadStarts, LeadMeets, lead_step}
 use Rattle.pair_core.proofs.Trail.{TrailAt, TrailStarts, TrailMeets, trail_as, trail_step}
@@ -35,13 +35,13 @@ abbrev pub Quits : Past → List ℕ → Type 0
 Quits lead took = (lead.at ≡ Ended WriteFault) × (took ≡ lead.sent)
 
 -- the state of both sides, with their histories beside the ideal run
-pub record Good (program : MidProgram) (input : List ℕ) (limits : Limits) (duo : DuoState) (events : List Event) : Type 0 where
+pub record Good (program : SharedProgram) (input : List ℕ) (limits : Limits) (duo : DuoState) (events : List Event) : Type 0 where
   pub lead : Past
   pub trail : Past
   pub i : ℕ
   pub j : ℕ
-  pub lead_past : HasPast program input limits Lead duo.lead_steps lead
-  pub trail_past : HasPast program input limits Trail duo.trail_steps trail
+  pub lead_past : HasPast program input limits no_upsets Lead duo.lead_steps lead
+  pub trail_past : HasPast program input limits no_upsets Trail duo.trail_steps trail
   pub lead_at : LeadAt program (ideal program input limits i) lead
   pub trail_at : TrailAt program (ideal program input limits j) (Quits lead) trail
   pub is_lead : duo.lead ≡ lead.at
@@ -51,6 +51,7 @@ pub record Good (program : MidProgram) (input : List ℕ) (limits : Limits) (duo
   pub acks : trail.sent ≡ lead.took ++ duo.acks
   pub words_sent : duo.words_sent ≡ length lead.sent
   pub acks_sent : duo.acks_sent ≡ length trail.sent
+  pub applied : duo.applied ≡ (lead.applied || trail.applied)
   pub written : events ≡ lead.events
 
 -- what is on the way after a step that sends
@@ -62,17 +63,21 @@ taken_way : (sent took coming met left : List ℕ) → sent ≡ took ++ coming �
 taken_way sent took coming met left e f = e ∙ ap (λ t. took ++ t) f ∙ sym (append_assoc took met left)
 
 -- the opening
-none_before : (ops : ℕ → Mid → List VersionOp) (program : MidProgram) (function : ℕ) (o : Option MidFunction) → 0 ≡ group_start ops program function 0 o + 0
-none_before ops program function None = omega arith
-none_before ops program function (Some f) = omega arith
+none_before : (table : Table) (cs : Option (List Class)) (f : Option MidFunction) → 0 ≡ group_start table 0 cs f + 0
+none_before table None f = omega arith
+none_before table (Some cs) None = omega arith
+none_before table (Some cs) (Some f) = omega arith
 
-starts_by : (ops : ℕ → Mid → List VersionOp) (program : MidProgram) (limits : Limits) (f : Option MidFunction) → with_main program limits f ≡ within_group ops program (with_main program limits f) 0
-starts_by ops program limits None = ap (λ p. put_at p (with_main program limits None)) (none_before ops program program.main (function_at program program.main))
-starts_by ops program limits (Some f) = ap (λ p. put_at p (with_main program limits (Some f))) (none_before ops program program.main (function_at program program.main))
+starts_by : (table : Table) (program : SharedProgram) (own : Own) (limits : Limits) (f : Option MidFunction) →
+    record { machine = with_main program.program limits f; own = own } ≡ within_group table program (record { machine = with_main program.program limits f; own = own }) 0
+starts_by table program own limits None =
+    ap (λ p. put_at p (record { machine = with_main program.program limits None; own = own })) (none_before table (classes_row program program.program.main) (function_at program.program program.program.main))
+starts_by table program own limits (Some f) =
+    ap (λ p. put_at p (record { machine = with_main program.program limits (Some f); own = own })) (none_before table (classes_row program program.program.main) (function_at program.program program.program.main))
 
-module _ (program : MidProgram) (input : List ℕ) (limits : Limits) (sites : HasSites program) where
-  starts_group : (ops : ℕ → Mid → List VersionOp) → started_machine program limits ≡ within_group ops program (started_machine program limits) 0
-  starts_group ops = starts_by ops program limits (function_at program program.main)
+module _ (program : SharedProgram) (input : List ℕ) (limits : Limits) (sites : HasSites program) where
+  starts_group : (table : Table) → started_standing program.program limits ≡ within_group table program (started_standing program.program limits) 0
+  starts_group table = starts_by table program (started_own program.program limits) limits (function_at program.program program.program.main)
 
   pub good_opening : Good program input limits (opening_duo program input limits) []
   good_opening = record {
@@ -82,8 +87,8 @@ module _ (program : MidProgram) (input : List ℕ) (limits : Limits) (sites : Ha
     j = 0;
     lead_past = refl;
     trail_past = refl;
-    lead_at = LeadStarts (started_machine program limits) refl (record { at_so = ap (λ m. Went (record { machine = m; heard = [] })) (starts_group leading_ops); world_so = refl; took_so = refl; sent_so = refl; events_so = refl });
-    trail_at = TrailStarts (started_machine program limits) refl (record { at_so = ap (λ m. Went (record { machine = m; heard = [] })) (starts_group trailing_ops); took_so = refl; sent_so = refl });
+    lead_at = LeadStarts (started_standing program.program limits) refl (record { at_so = ap (λ m. Went (record { at = m; heard = [] })) (starts_group leading); world_so = refl; took_so = refl; sent_so = refl; events_so = refl });
+    trail_at = TrailStarts (started_standing program.program limits) refl (record { at_so = ap (λ m. Went (record { at = m; heard = [] })) (starts_group trailing); took_so = refl; sent_so = refl });
     is_lead = refl;
     is_trail = refl;
     is_world = refl;
@@ -91,6 +96,7 @@ module _ (program : MidProgram) (input : List ℕ) (limits : Limits) (sites : Ha
     acks = refl;
     words_sent = refl;
     acks_sent = refl;
+    applied = refl;
     written = refl;
   }
 
@@ -147,7 +153,7 @@ module _ (program : MidProgram) (input : List ℕ) (limits : Limits) (sites : Ha
         i = lead_next_at.0;
         j = g.j;
         lead_past = let one : suc duo.lead_steps ≡ duo.lead_steps + 1 = omega arith in
-            subst (λ n. HasPast program input limits Lead n lead_after) one (g.lead, g.lead_past, s, sym g.is_lead ∙ at, meet, subst (λ w. CanMeet Lead program s w meet) g.is_world can, ap (λ w. grown g.lead meet (next_of Lead program s w meet)) g.is_world);
+            subst (λ n. HasPast program input limits no_upsets Lead n lead_after) one (g.lead, g.lead_past, record { stood = s; goes = sym g.is_lead ∙ at; meet = meet; can_meet = subst (λ w. CanMeet Lead program s w meet) g.is_world can; grows = ap (λ w. grown g.lead meet (next_of Lead program s w meet)) g.is_world });
         trail_past = g.trail_past;
         lead_at = lead_next_at.1;
         trail_at = trail_as program (ideal program input limits g.j) (Quits g.lead) (Quits lead_after) g.trail (λ took quit. let both : Went s ≡ Ended WriteFault = sym at ∙ g.is_lead ∙ quit.0 in absurd (cc)) g.trail_at;
@@ -158,6 +164,7 @@ module _ (program : MidProgram) (input : List ℕ) (limits : Limits) (sites : Ha
         acks = taken_way g.trail.sent g.lead.took duo.acks (word_met meet) left g.acks coming;
         words_sent = omega (arith, g.words_sent, length-append g.lead.sent lead_gives.sent);
         acks_sent = g.acks_sent;
+        applied = g.applied;
         written = ap (λ t. t ++ lead_gives.events) g.written;
       }
 
@@ -221,7 +228,7 @@ module _ (program : MidProgram) (input : List ℕ) (limits : Limits) (sites : Ha
         j = trail_next_at.0;
         lead_past = g.lead_past;
         trail_past = let one : suc duo.trail_steps ≡ duo.trail_steps + 1 = omega arith in
-            subst (λ n. HasPast program input limits Trail n trail_after) one (g.trail, g.trail_past, s, sym g.is_trail ∙ at, meet, can_trail, refl);
+            subst (λ n. HasPast program input limits no_upsets Trail n trail_after) one (g.trail, g.trail_past, record { stood = s; goes = sym g.is_trail ∙ at; meet = meet; can_meet = can_trail; grows = refl });
         lead_at = g.lead_at;
         trail_at = trail_next_at.1;
         is_lead = g.is_lead;
@@ -231,6 +238,7 @@ module _ (program : MidProgram) (input : List ℕ) (limits : Limits) (sites : Ha
         acks = on_way (is_over duo.lead) g.trail.sent g.lead.took duo.acks trail_gives.sent g.acks trail_drops_none;
         words_sent = g.words_sent;
         acks_sent = omega (arith, g.acks_sent, length-append g.trail.sent trail_gives.sent);
+        applied = g.applied;
         written = g.written;
       }
 
@@ -264,15 +272,15 @@ module _ (program : MidProgram) (input : List ℕ) (limits : Limits) (sites : Ha
     trail_turned fails (Ended end) at = same_events duo g
 
     -- every event keeps it
-    pub good_turn : (side : Side) (fails : Option ℕ) → Good program input limits (turn_of program side fails duo).state (events ++ (turn_of program side fails duo).events)
+    pub good_turn : (side : Side) (fails : Option ℕ) → Good program input limits (turn_of program no_upsets side fails duo).state (events ++ (turn_of program no_upsets side fails duo).events)
     good_turn Lead fails = lead_turned fails duo.lead refl
     good_turn Trail fails = trail_turned fails duo.trail refl
 
   -- and so does every schedule
-  pub good_run : (entries : List Entry) (sofar : Scheduled) → Good program input limits sofar.duo sofar.events → Good program input limits (run_on program sofar entries).duo (run_on program sofar entries).events
+  pub good_run : (entries : List Entry) (sofar : Scheduled) → Good program input limits sofar.duo sofar.events → Good program input limits (run_on program no_upsets sofar entries).duo (run_on program no_upsets sofar entries).events
   good_run [] sofar g = g
   good_run (entry ∷ entries) sofar g =
-      good_run entries (record { duo = (turn_of program entry.side entry.fails sofar.duo).state; events = sofar.events ++ (turn_of program entry.side entry.fails sofar.duo).events }) (good_turn sofar.duo sofar.events g entry.side entry.fails)
+      good_run entries (record { duo = (turn_of program no_upsets entry.side entry.fails sofar.duo).state; events = sofar.events ++ (turn_of program no_upsets entry.side entry.fails sofar.duo).events }) (good_turn sofar.duo sofar.events g entry.side entry.fails)
 
-  pub good_scheduled : (entries : List Entry) → Good program input limits (scheduled program input limits entries).duo (scheduled program input limits entries).events
+  pub good_scheduled : (entries : List Entry) → Good program input limits (scheduled program input limits no_upsets entries).duo (scheduled program input limits no_upsets entries).events
   good_scheduled entries = good_run entries (record { duo = opening_duo program input limits; events = [] }) good_opening

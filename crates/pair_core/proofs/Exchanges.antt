@@ -2,13 +2,13 @@
 use Rattle.std.proofs.Common.{◌≡◌, ℕ, suc, ◌+◌, ◌≤◌, true, false, List, [], ◌∷◌, ◌++◌, length, take, sym, ap, ap₂, ◌∙◌, arith}
 use Rattle.srmt_base.specs.declared.side.Side.TheVariants.{Lead, Trail}
 use Rattle.srmt_base.specs.declared.trap.SourceEnd.{SourceEnd}
-use Rattle.mid_code.specs.declared.program.MidProgram.{MidProgram}
-use Rattle.mid_code.specs.Versions.{leading_ops, trailing_ops}
-use Rattle.mid_code.specs.Machine.{Machine}
+use Rattle.mid_code.specs.Classes.{SharedProgram}
+use Rattle.mid_code.specs.Versions.{leading, trailing}
+use Rattle.world.specs.Standing.{Standing}
 use Rattle.word_stream.specs.declared.request.Request.{Request}
 use Rattle.word_stream.specs.declared.request.Response.{Response}
 use Rattle.word_stream.specs.Exchange.{is_guarded, response_words, checks_of, acks_of}
-use Rattle.world.specs.World.{WorldState, ask, stopped}
+use Rattle.world.specs.World.{WorldState, Over as WorldOver, ask}
 use Rattle.world.specs.Requests.{Requests, wants, Back, Over, resume}
 use Rattle.verdicts.specs.declared.thread_end.ThreadEnd.TheVariants.{PeerEnded, WriteFault}
 use Rattle.machine.specs.Side.{Plain, Got, Closed, Failed, Went, Ended}
@@ -19,11 +19,11 @@ use Rattle.pair_core.specs.Laws.{end_as}
 use Rattle.pair_core.proofs.Groups.{Stands, Next, next_line, group_place, lead_side, trail_side, ExchangeGroup, group_asks, passed_within}
 use Rattle.pair_core.proofs.Steps.{gave, IsPresent, single, own_check, ask_op, await_op, act_op, check_op, ack_op, end_op, lead_asks_by, lead_hears_by, lead_acts_by, lead_fails_by, lead_behind, trail_behind, trail_checks_one, trail_closed_by, trail_acks_by, trail_ends_by}
 
-module _ (program : MidProgram) (m : Machine) (stands : Stands program m) (q : Request) (h : wants program m ≡ Requests q) where
+module _ (program : SharedProgram) (m : Standing) (stands : Stands program m) (q : Request) (h : wants program m ≡ Requests q) where
   n : Next program m
   n = next_line program m stands
 
-  g : ExchangeGroup program m q n.line
+  g : ExchangeGroup program m q n
   g = group_asks program m stands n q h
 
   pub asks_guarded : is_guarded q ≡ true
@@ -57,7 +57,7 @@ module _ (program : MidProgram) (m : Machine) (stands : Stands program m) (q : R
   pub lead_hears_takes : (heard : List ℕ) → takes_at (side_op Lead program (lead_side program m 1 heard)) ≡ true
   lead_hears_takes heard = ap takes_at (await_op program m stands n q g heard)
 
-  pub lead_acts_back : (w : WorldState) (next : Machine) → resume program m (ask w q).response ≡ Back next →
+  pub lead_acts_back : (w : WorldState) (next : Standing) → resume program m (ask w q).response ≡ Back next →
       lead_next program (lead_side program m 2 []) w Plain ≡ gave (Went (lead_side program next 0 [])) (response_words q (ask w q).response) (ask w q).world (ask w q).events
   lead_acts_back w next back =
       let b = g.back (ask w q).response next back in
@@ -74,7 +74,7 @@ module _ (program : MidProgram) (m : Machine) (stands : Stands program m) (q : R
   pub lead_acts_takes : takes_at (side_op Lead program (lead_side program m 2 [])) ≡ false
   lead_acts_takes = ap takes_at (act_op program m stands n q g)
 
-  pub lead_fails : (w : WorldState) (written : ℕ) → lead_next program (lead_side program m 2 []) w (Failed written) ≡ gave (Ended WriteFault) [] (stopped w) (take written (ask w q).events)
+  pub lead_fails : (w : WorldState) (written : ℕ) → lead_next program (lead_side program m 2 []) w (Failed written) ≡ gave (Ended WriteFault) [] WorldOver (take written (ask w q).events)
   lead_fails w written = lead_fails_by program m stands n q g w written
 
   -- the trailing side
@@ -100,14 +100,14 @@ module _ (program : MidProgram) (m : Machine) (stands : Stands program m) (q : R
   acks_at : (w : WorldState) → trail_next program (trail_side program m (length (checks_of q))) w Plain ≡ gave (Went (passed_on (trail_side program m 1))) (acks_of q) w []
   acks_at w = ap (λ k. trail_next program (trail_side program m k) w Plain) one_check ∙ trail_acks_by program m stands n q g w
 
-  pub trail_acks_back : (w : WorldState) (r : Response) (next : Machine) → resume program m r ≡ Back next → trail_next program (trail_side program m (length (checks_of q))) w Plain ≡ gave (Went (trail_side program next 0)) (acks_of q) w []
+  pub trail_acks_back : (w : WorldState) (r : Response) (next : Standing) → resume program m r ≡ Back next → trail_next program (trail_side program m (length (checks_of q))) w Plain ≡ gave (Went (trail_side program next 0)) (acks_of q) w []
   trail_acks_back w r next back =
       let b = g.back r next back in
       acks_at w ∙ ap (λ s. gave (Went s) (acks_of q) w []) (trail_behind program m stands n q g b.1 ∙ ap (λ x. trail_side program x 0) (sym b.0))
 
   pub trail_acks_over : (w : WorldState) (r : Response) (end : SourceEnd) → resume program m r ≡ Over end → trail_next program (trail_side program m (length (checks_of q))) w Plain ≡ gave (Went (trail_side program m (suc (length (checks_of q))))) (acks_of q) w []
   trail_acks_over w r end over =
-      acks_at w ∙ ap (λ x. gave (Went (record { machine = x; heard = [] })) (acks_of q) w []) (passed_within trailing_ops program m 1)
+      acks_at w ∙ ap (λ x. gave (Went (record { at = x; heard = [] })) (acks_of q) w []) (passed_within trailing program m 1)
       ∙ ap (λ k. gave (Went (trail_side program m (suc k))) (acks_of q) w []) (sym one_check)
 
   pub trail_acks_takes : takes_at (side_op Trail program (trail_side program m (length (checks_of q)))) ≡ false
@@ -152,15 +152,15 @@ module _ (program : MidProgram) (m : Machine) (stands : Stands program m) (q : R
   pub trail_end_here : (r : Response) (end : SourceEnd) → resume program m r ≡ Over end → IsPresent Trail program (trail_side program m (suc (length (checks_of q))))
   trail_end_here r end over = (_, ap (λ k. side_op Trail program (trail_side program m (suc k))) one_check ∙ end_op program m stands n q g (g.over r end over).0)
 
-  pub back_function : (r : Response) (next : Machine) → resume program m r ≡ Back next → next.top.function ≡ m.top.function
-  back_function r next back = ap (λ x. x.top.function) (g.back r next back).0
+  pub back_function : (r : Response) (next : Standing) → resume program m r ≡ Back next → next.machine.top.function ≡ m.machine.top.function
+  back_function r next back = ap (λ x. x.machine.top.function) (g.back r next back).0
 
-  pub lead_back_place : (r : Response) (next : Machine) → resume program m r ≡ Back next → group_place leading_ops program m + 2 + 1 ≡ group_place leading_ops program next + 0
+  pub lead_back_place : (r : Response) (next : Standing) → resume program m r ≡ Back next → group_place leading program m + 2 + 1 ≡ group_place leading program next + 0
   lead_back_place r next back =
-      ap (λ s. s.machine.top.place) (lead_behind program m stands n q g) ∙ ap (λ x. group_place leading_ops program x + 0) (sym (g.back r next back).0)
+      ap (λ s. s.at.machine.top.place) (lead_behind program m stands n q g) ∙ ap (λ x. group_place leading program x + 0) (sym (g.back r next back).0)
 
-  pub trail_back_place : (r : Response) (next : Machine) → resume program m r ≡ Back next → group_place trailing_ops program m + length (checks_of q) + 1 ≡ group_place trailing_ops program next + 0
+  pub trail_back_place : (r : Response) (next : Standing) → resume program m r ≡ Back next → group_place trailing program m + length (checks_of q) + 1 ≡ group_place trailing program next + 0
   trail_back_place r next back =
       let b = g.back r next back in
-      ap (λ k. group_place trailing_ops program m + k + 1) one_check
-      ∙ ap (λ s. s.machine.top.place) (trail_behind program m stands n q g b.1) ∙ ap (λ x. group_place trailing_ops program x + 0) (sym b.0)
+      ap (λ k. group_place trailing program m + k + 1) one_check
+      ∙ ap (λ s. s.at.machine.top.place) (trail_behind program m stands n q g b.1) ∙ ap (λ x. group_place trailing program x + 0) (sym b.0)

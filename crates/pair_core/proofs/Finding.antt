@@ -2,9 +2,9 @@
 use Rattle.std.proofs.Common.{◌≡◌, ℕ, ◌+◌, ◌<◌, Bool, true, false, ◌&&◌, not, List, [], ◌∷◌, ◌++◌, length, Option, Some, None, nat_lt, refl, sym, ap, ltb-true}
 use Rattle.srmt_base.specs.declared.side.Side.{Side}
 use Rattle.srmt_base.specs.declared.side.Side.TheVariants.{Trail}
-use Rattle.mid_code.specs.declared.program.MidProgram.{MidProgram}
+use Rattle.mid_code.specs.Classes.{SharedProgram}
 use Rattle.mid_code.specs.declared.version.VersionOp.{VersionOp}
-use Rattle.mid_code.specs.declared.version.VersionOp.TheVariants.{Copied, Ask, Await, Act, Check, Ack, End}
+use Rattle.mid_code.specs.declared.version.VersionOp.TheVariants.{Copied}
 use Rattle.mid_code.specs.declared.version.VersionLine.{VersionLine}
 use Rattle.world.specs.World.{WorldState}
 use Rattle.machine.specs.declared.stepped.Stepped.TheVariants.{NotYet}
@@ -49,7 +49,7 @@ found_by : (taking sending : Bool) (count : ℕ) (view : View) (fails : Option �
 found_by true sending count view fails = found_word count view view.peer_over view.coming refl refl
 found_by false sending count view fails = found_room count view fails (is_crowded sending view)
 
-pub found : (side : Side) (program : MidProgram) (s : SideState) (w : WorldState) (fails : Option ℕ) (view : View) →
+pub found : (side : Side) (program : SharedProgram) (s : SideState) (w : WorldState) (fails : Option ℕ) (view : View) →
     IsFound (takes_at (side_op side program s)) (length (next_of side program s w Plain).events) view (finds side program s w fails view)
 found side program s w fails view = found_by (takes_at (side_op side program s)) (may_send_at (side_op side program s)) (length (next_of side program s w Plain).events) view fails
 
@@ -81,7 +81,7 @@ why_by : (taking sending : Bool) (view : View) (meet : Meet) → finds_by taking
 why_by true sending view meet h = why_word sending view view.peer_over view.coming refl refl h
 why_by false sending view meet h = why_room sending view meet (is_crowded sending view) refl h
 
-pub why : (side : Side) (program : MidProgram) (s : SideState) (w : WorldState) (fails : Option ℕ) (view : View) → finds side program s w fails view ≡ Waits → Why (takes_at (side_op side program s)) (may_send_at (side_op side program s)) view
+pub why : (side : Side) (program : SharedProgram) (s : SideState) (w : WorldState) (fails : Option ℕ) (view : View) → finds side program s w fails view ≡ Waits → Why (takes_at (side_op side program s)) (may_send_at (side_op side program s)) view
 why side program s w fails view h = why_by (takes_at (side_op side program s)) (may_send_at (side_op side program s)) view (meet_by fails (length (next_of side program s w Plain).events)) h
 
 -- a trailing step is the same whatever the world
@@ -90,37 +90,27 @@ pub record Alike (a b : StepGives) : Type 0 where
   pub sent : a.sent ≡ b.sent
   pub events : a.events ≡ b.events
 
-alike_op : (program : MidProgram) (op : VersionOp) (line : ℕ) (s : SideState) (v w : WorldState) (meet : Meet) → Alike (trail_op program op line s v meet) (trail_op program op line s w meet)
+alike_op : (program : SharedProgram) (op : VersionOp) (line : ℕ) (s : SideState) (v w : WorldState) (meet : Meet) → Alike (trail_op program op line s v meet) (trail_op program op line s w meet)
 alike_op program (Copied mid) line s v w meet = record { outcome = refl; sent = refl; events = refl }
-alike_op program (Ask site args) line s v w meet = record { outcome = refl; sent = refl; events = refl }
-alike_op program (Await site args) line s v w meet = record { outcome = refl; sent = refl; events = refl }
-alike_op program (Act site asks args) line s v w meet = record { outcome = refl; sent = refl; events = refl }
-alike_op program (Check site source) line s v w meet = record { outcome = refl; sent = refl; events = refl }
-alike_op program (Ack site args) line s v w meet = record { outcome = refl; sent = refl; events = refl }
-alike_op program (End source) line s v w meet = record { outcome = refl; sent = refl; events = refl }
+alike_op program _ line s v w meet = record { outcome = refl; sent = refl; events = refl }
 
-alike_at : (program : MidProgram) (o : Option VersionLine) (s : SideState) (v w : WorldState) (meet : Meet) → Alike (trail_at program o s v meet) (trail_at program o s w meet)
+alike_at : (program : SharedProgram) (o : Option VersionLine) (s : SideState) (v w : WorldState) (meet : Meet) → Alike (trail_at program o s v meet) (trail_at program o s w meet)
 alike_at program None s v w meet = record { outcome = refl; sent = refl; events = refl }
 alike_at program (Some l) s v w meet = alike_op program l.op l.line s v w meet
 
-pub alike : (program : MidProgram) (s : SideState) (v w : WorldState) (meet : Meet) → Alike (trail_next program s v meet) (trail_next program s w meet)
+pub alike : (program : SharedProgram) (s : SideState) (v w : WorldState) (meet : Meet) → Alike (trail_next program s v meet) (trail_next program s w meet)
 unfolding trail_next
 alike program s v w meet = alike_at program (side_op Trail program s) s v w meet
 
 -- a trailing step writes nothing
-quiet_op : (program : MidProgram) (op : VersionOp) (line : ℕ) (s : SideState) (w : WorldState) (meet : Meet) → (trail_op program op line s w meet).events ≡ []
+quiet_op : (program : SharedProgram) (op : VersionOp) (line : ℕ) (s : SideState) (w : WorldState) (meet : Meet) → (trail_op program op line s w meet).events ≡ []
 quiet_op program (Copied mid) line s w meet = refl
-quiet_op program (Ask site args) line s w meet = refl
-quiet_op program (Await site args) line s w meet = refl
-quiet_op program (Act site asks args) line s w meet = refl
-quiet_op program (Check site source) line s w meet = refl
-quiet_op program (Ack site args) line s w meet = refl
-quiet_op program (End source) line s w meet = refl
+quiet_op program _ line s w meet = refl
 
-quiet_at : (program : MidProgram) (o : Option VersionLine) (s : SideState) (w : WorldState) (meet : Meet) → (trail_at program o s w meet).events ≡ []
+quiet_at : (program : SharedProgram) (o : Option VersionLine) (s : SideState) (w : WorldState) (meet : Meet) → (trail_at program o s w meet).events ≡ []
 quiet_at program None s w meet = refl
 quiet_at program (Some l) s w meet = quiet_op program l.op l.line s w meet
 
-pub writes_nothing : (program : MidProgram) (s : SideState) (w : WorldState) (meet : Meet) → (trail_next program s w meet).events ≡ []
+pub writes_nothing : (program : SharedProgram) (s : SideState) (w : WorldState) (meet : Meet) → (trail_next program s w meet).events ≡ []
 unfolding trail_next
 writes_nothing program s w meet = quiet_at program (side_op Trail program s) s w meet

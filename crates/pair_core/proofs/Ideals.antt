@@ -4,8 +4,8 @@ use Rattle.std.proofs.lemmas.Bool.{cases_lt}
 use Rattle.srmt_base.specs.declared.event.Event.{Event}
 use Rattle.srmt_base.specs.declared.limits.Limits.{Limits}
 use Rattle.srmt_base.specs.declared.trap.SourceEnd.{SourceEnd}
-use Rattle.mid_code.specs.declared.program.MidProgram.{MidProgram}
-use Rattle.mid_code.specs.Machine.{Machine}
+use Rattle.mid_code.specs.Classes.{SharedProgram}
+use Rattle.world.specs.Standing.{Standing}
 use Rattle.mid_code.specs.Pairs.{HasSites}
 use Rattle.word_stream.specs.declared.request.Request.{Request}
 use Rattle.word_stream.specs.declared.request.Response.{Response}
@@ -19,7 +19,7 @@ use Rattle.pair_core.proofs.Groups.{Stands, next_line, never_dies, never_lost, s
 use Rattle.pair_core.proofs.Exchanges.{asks_guarded, same_count}
 
 -- what stands at a place of the ideal run
-abbrev pub PlaceFits : MidProgram → Place → Type 0
+abbrev pub PlaceFits : SharedProgram → Place → Type 0
 PlaceFits program (Here m) = Stands program m
 PlaceFits program (Owed m response) = Stands program m × (q : Request) × (wants program m ≡ Requests q)
 PlaceFits program (Ended end) = Unit {0}
@@ -61,10 +61,10 @@ grows_both c d more back new e f v same = record {
 }
 
 -- a state after a request that was answered, and after its response was taken
-abbrev pub asked_state : MidProgram → Machine → Request → IdealState → IdealState
+abbrev pub asked_state : SharedProgram → Standing → Request → IdealState → IdealState
 asked_state program m q c = requested true program m q (ask c.world q) c
 
-abbrev pub answered_state : MidProgram → Machine → Request → IdealState → IdealState
+abbrev pub answered_state : SharedProgram → Standing → Request → IdealState → IdealState
 answered_state program m q c = record {
   place = place_by (resume program m (ask c.world q).response);
   world = (ask c.world q).world;
@@ -73,25 +73,25 @@ answered_state program m q c = record {
   events = c.events ++ (ask c.world q).events;
 }
 
-module _ (program : MidProgram) (c : IdealState) where
-  pub next_runs : (m next : Machine) → c.place ≡ Here m → wants program m ≡ Runs next → ideal_next program c ≡ record c { place = Here next }
+module _ (program : SharedProgram) (c : IdealState) where
+  pub next_runs : (m next : Standing) → c.place ≡ Here m → wants program m ≡ Runs next → ideal_next program c ≡ record c { place = Here next }
   next_runs m next here h = ap (λ p. next_by p program c) here ∙ ap (λ x. here_next x program m c) h
 
-  asks_on : (m : Machine) (q : Request) → Stands program m → wants program m ≡ Requests q → requested (is_guarded q) program m q (ask c.world q) c ≡ asked_state program m q c
+  asks_on : (m : Standing) (q : Request) → Stands program m → wants program m ≡ Requests q → requested (is_guarded q) program m q (ask c.world q) c ≡ asked_state program m q c
   asks_on m q stands h = ap (λ b. requested b program m q (ask c.world q) c) (asks_guarded program m stands q h)
 
-  pub next_asks : (m : Machine) (q : Request) → c.place ≡ Here m → Stands program m → wants program m ≡ Requests q → ideal_next program c ≡ asked_state program m q c
+  pub next_asks : (m : Standing) (q : Request) → c.place ≡ Here m → Stands program m → wants program m ≡ Requests q → ideal_next program c ≡ asked_state program m q c
   next_asks m q here stands h =
       ap (λ p. next_by p program c) here ∙ ap (λ x. here_next x program m c) h ∙ asks_on m q stands h
 
-  pub next_owed : (m : Machine) (r : Response) → c.place ≡ Owed m r → ideal_next program c ≡ owed_next program m r c
+  pub next_owed : (m : Standing) (r : Response) → c.place ≡ Owed m r → ideal_next program c ≡ owed_next program m r c
   next_owed m r owed = ap (λ p. next_by p program c) owed
 
   pub next_ended : (end : SourceEnd) → c.place ≡ Ended end → ideal_next program c ≡ c
   next_ended end ended = ap (λ p. next_by p program c) ended
 
   -- a request is answered in two steps
-  pub next_twice : (m : Machine) (q : Request) → c.place ≡ Here m → Stands program m → wants program m ≡ Requests q → ideal_next program (ideal_next program c) ≡ answered_state program m q c
+  pub next_twice : (m : Standing) (q : Request) → c.place ≡ Here m → Stands program m → wants program m ≡ Requests q → ideal_next program (ideal_next program c) ≡ answered_state program m q c
   next_twice m q here stands h =
       ap (ideal_next program) (next_asks m q here stands h)
       ∙ ap (λ x. record {
@@ -102,12 +102,12 @@ module _ (program : MidProgram) (c : IdealState) where
         events = c.events ++ (ask c.world q).events;
       }) h
 
-  grows_here : (m : Machine) → Stands program m → (x : Wants) → wants program m ≡ x → Grows c (here_next x program m c)
+  grows_here : (m : Standing) → Stands program m → (x : Wants) → wants program m ≡ x → Grows c (here_next x program m c)
   grows_here m stands (Runs next) h = grows_words c (record c { place = Here next }) [] (sym (append-nil c.words)) refl refl
-  grows_here m stands (Dies trap line) h = absurd (never_dies program m stands (next_line program m stands) trap line h)
+  grows_here m stands (Dies words trap line) h = absurd (never_dies program m stands (next_line program m stands) words trap line h)
   grows_here m stands (Requests q) h =
       subst (Grows c) (sym (asks_on m q stands h)) (grows_both c (asked_state program m q c) (checks_of q) (acks_of q) (ask c.world q).events refl refl refl (same_count program m stands q h))
-  grows_here m stands Lost h = grows_none c
+  grows_here m stands (Lost words) h = grows_none c
 
   grows_at : (p : Place) → PlaceFits program p → Grows c (next_by p program c)
   grows_at (Here m) fits = grows_here m fits (wants program m) refl
@@ -117,16 +117,16 @@ module _ (program : MidProgram) (c : IdealState) where
   pub grows_next : PlaceFits program c.place → Grows c (ideal_next program c)
   grows_next fits = grows_at c.place fits
 
-  fits_resumed : (m : Machine) → Stands program m → (q : Request) → wants program m ≡ Requests q → (r : Response) (x : Resumed) → resume program m r ≡ x → PlaceFits program (place_by x)
+  fits_resumed : (m : Standing) → Stands program m → (q : Request) → wants program m ≡ Requests q → (r : Response) (x : Resumed) → resume program m r ≡ x → PlaceFits program (place_by x)
   fits_resumed m stands q h r (Back next) back = stands_back program m stands (next_line program m stands) q r next h back
   fits_resumed m stands q h r (Over end) over = tt
 
-  fits_here : (m : Machine) → Stands program m → (x : Wants) → wants program m ≡ x → PlaceFits program (here_next x program m c).place
+  fits_here : (m : Standing) → Stands program m → (x : Wants) → wants program m ≡ x → PlaceFits program (here_next x program m c).place
   fits_here m stands (Runs next) h = stands_runs program m stands (next_line program m stands) next h
-  fits_here m stands (Dies trap line) h = tt
+  fits_here m stands (Dies words trap line) h = tt
   fits_here m stands (Requests q) h =
       subst (λ d. PlaceFits program d.place) (sym (asks_on m q stands h)) (stands, q, h)
-  fits_here m stands Lost h = absurd (never_lost program m stands (next_line program m stands) h)
+  fits_here m stands (Lost words) h = absurd (never_lost program m stands (next_line program m stands) words h)
 
   fits_at : (p : Place) → c.place ≡ p → PlaceFits program p → PlaceFits program (next_by p program c).place
   fits_at (Here m) same fits = fits_here m fits (wants program m) refl
@@ -136,25 +136,25 @@ module _ (program : MidProgram) (c : IdealState) where
   pub fits_next : PlaceFits program c.place → PlaceFits program (ideal_next program c).place
   fits_next fits = fits_at c.place refl fits
 
-module _ (program : MidProgram) (input : List ℕ) (limits : Limits) (sites : HasSites program) where
+module _ (program : SharedProgram) (input : List ℕ) (limits : Limits) (sites : HasSites program) where
   pub fits_point : (i : ℕ) → PlaceFits program (ideal program input limits i).place
   fits_point zero = stands_started program limits sites
   fits_point (suc i) = fits_next program (ideal program input limits i) (fits_point i)
 
-  pub stands_point : (i : ℕ) (m : Machine) → (ideal program input limits i).place ≡ Here m → Stands program m
+  pub stands_point : (i : ℕ) (m : Standing) → (ideal program input limits i).place ≡ Here m → Stands program m
   stands_point i m here = subst (PlaceFits program) here (fits_point i)
 
-  pub stands_owed : (i : ℕ) (m : Machine) (r : Response) → (ideal program input limits i).place ≡ Owed m r → Stands program m
+  pub stands_owed : (i : ℕ) (m : Standing) (r : Response) → (ideal program input limits i).place ≡ Owed m r → Stands program m
   stands_owed i m r owed = let fits : PlaceFits program (Owed m r) = subst (PlaceFits program) owed (fits_point i) in fits.0
 
   -- after a request was checked
-  pub asked_words : (i : ℕ) (m : Machine) (q : Request) → (ideal program input limits i).place ≡ Here m → wants program m ≡ Requests q → (ideal program input limits (suc i)).words ≡ (ideal program input limits i).words ++ checks_of q
+  pub asked_words : (i : ℕ) (m : Standing) (q : Request) → (ideal program input limits i).place ≡ Here m → wants program m ≡ Requests q → (ideal program input limits (suc i)).words ≡ (ideal program input limits i).words ++ checks_of q
   asked_words i m q here h = ap (λ d. d.words) (next_asks program (ideal program input limits i) m q here (stands_point i m here) h)
 
-  pub asked_echoes : (i : ℕ) (m : Machine) (q : Request) → (ideal program input limits i).place ≡ Here m → wants program m ≡ Requests q → (ideal program input limits (suc i)).echoes ≡ (ideal program input limits i).echoes ++ acks_of q
+  pub asked_echoes : (i : ℕ) (m : Standing) (q : Request) → (ideal program input limits i).place ≡ Here m → wants program m ≡ Requests q → (ideal program input limits (suc i)).echoes ≡ (ideal program input limits i).echoes ++ acks_of q
   asked_echoes i m q here h = ap (λ d. d.echoes) (next_asks program (ideal program input limits i) m q here (stands_point i m here) h)
 
-  pub asked_events : (i : ℕ) (m : Machine) (q : Request) → (ideal program input limits i).place ≡ Here m → wants program m ≡ Requests q → (ideal program input limits (suc i)).events ≡ (ideal program input limits i).events ++ (ask (ideal program input limits i).world q).events
+  pub asked_events : (i : ℕ) (m : Standing) (q : Request) → (ideal program input limits i).place ≡ Here m → wants program m ≡ Requests q → (ideal program input limits (suc i)).events ≡ (ideal program input limits i).events ++ (ask (ideal program input limits i).world q).events
   asked_events i m q here h = ap (λ d. d.events) (next_asks program (ideal program input limits i) m q here (stands_point i m here) h)
 
   grows_by : (k i : ℕ) → Grows (ideal program input limits i) (ideal program input limits (k + i))

@@ -5,12 +5,12 @@ use Rattle.srmt_base.specs.declared.limits.Limits.{Limits}
 use Rattle.srmt_base.specs.declared.side.Side.{Side}
 use Rattle.srmt_base.specs.declared.side.Side.TheVariants.{Lead}
 use Rattle.srmt_base.specs.declared.trap.SourceEnd.{SourceEnd}
-use Rattle.mid_code.specs.declared.program.MidProgram.{MidProgram}
-use Rattle.mid_code.specs.Machine.{Machine}
+use Rattle.mid_code.specs.Classes.{SharedProgram}
+use Rattle.world.specs.Standing.{Standing}
 use Rattle.mid_code.specs.Pairs.{HasSites}
 use Rattle.word_stream.specs.declared.request.Request.{Request}
 use Rattle.word_stream.specs.Exchange.{checks_of, acks_of}
-use Rattle.world.specs.World.{WorldState, ask, stopped}
+use Rattle.world.specs.World.{WorldState, Over as WorldOver, ask}
 use Rattle.world.specs.Requests.{Wants, Runs, Dies, Requests, Lost, wants, Resumed, Back, Over, resume}
 use Rattle.world.specs.Ideal.{Here, Ended as PlaceEnded, IdealState, place_by, ideal}
 use Rattle.verdicts.specs.declared.thread_end.ThreadEnd.TheVariants.{WriteFault}
@@ -35,7 +35,7 @@ pub record Shows (past : Past) (at : Outcome) (w : WorldState) (took sent : List
   pub events_so : past.events ≡ events
 
 -- one step more, by what the step gives
-pub shows_on : (side : Side) (program : MidProgram) (past : Past) (s s' : SideState) (meet : Meet) (w : WorldState) (took sent : List ℕ) (events : List Event) (gives : StepGives) (took' sent' : List ℕ) (events' : List Event) →
+pub shows_on : (side : Side) (program : SharedProgram) (past : Past) (s s' : SideState) (meet : Meet) (w : WorldState) (took sent : List ℕ) (events : List Event) (gives : StepGives) (took' sent' : List ℕ) (events' : List Event) →
     Shows past (Went s) w took sent events → past.at ≡ Went s' → next_of side program s w meet ≡ gives →
     took ++ word_met meet ≡ took' → sent ++ gives.sent ≡ sent' → events ++ gives.events ≡ events' →
     Shows (grown past meet (next_of side program s' past.world meet)) gives.outcome gives.world took' sent' events'
@@ -50,22 +50,22 @@ shows_on side program past s s' meet w took sent events gives took' sent' events
     }
 
 -- where the leading side can be beside a state of the ideal run
-pub data LeadAt (program : MidProgram) (c : IdealState) (past : Past) : Type 0 where
+pub data LeadAt (program : SharedProgram) (c : IdealState) (past : Past) : Type 0 where
   -- at the first instruction of the group
-  LeadStarts : (m : Machine) → c.place ≡ Here m → Shows past (Went (lead_side program m 0 [])) c.world c.echoes c.words c.events → LeadAt program c past
+  LeadStarts : (m : Standing) → c.place ≡ Here m → Shows past (Went (lead_side program m 0 [])) c.world c.echoes c.words c.events → LeadAt program c past
   -- it awaits the acknowledgements of its request, and has heard some
-  LeadAwaits : (m : Machine) (q : Request) (heard : List ℕ) (x : ℕ) (rest : List ℕ) → c.place ≡ Here m → wants program m ≡ Requests q → acks_of q ≡ heard ++ x ∷ rest →
+  LeadAwaits : (m : Standing) (q : Request) (heard : List ℕ) (x : ℕ) (rest : List ℕ) → c.place ≡ Here m → wants program m ≡ Requests q → acks_of q ≡ heard ++ x ∷ rest →
       Shows past (Went (lead_side program m 1 heard)) c.world (c.echoes ++ heard) (c.words ++ checks_of q) c.events → LeadAt program c past
   -- all were right, and the world is to be asked
-  LeadActs : (m : Machine) (q : Request) → c.place ≡ Here m → wants program m ≡ Requests q →
+  LeadActs : (m : Standing) (q : Request) → c.place ≡ Here m → wants program m ≡ Requests q →
       Shows past (Went (lead_side program m 2 [])) c.world (c.echoes ++ acks_of q) (c.words ++ checks_of q) c.events → LeadAt program c past
   -- it has ended as the ideal run has
   LeadEnded : (end : SourceEnd) → c.place ≡ PlaceEnded end → Shows past (Ended (end_as end)) c.world c.echoes c.words c.events → LeadAt program c past
   -- an event has failed
-  LeadFailed : (m : Machine) (q : Request) (written : ℕ) → c.place ≡ Here m → wants program m ≡ Requests q →
-      Shows past (Ended WriteFault) (stopped c.world) (c.echoes ++ acks_of q) (c.words ++ checks_of q) (c.events ++ take written (ask c.world q).events) → LeadAt program c past
+  LeadFailed : (m : Standing) (q : Request) (written : ℕ) → c.place ≡ Here m → wants program m ≡ Requests q →
+      Shows past (Ended WriteFault) WorldOver (c.echoes ++ acks_of q) (c.words ++ checks_of q) (c.events ++ take written (ask c.world q).events) → LeadAt program c past
 
-module _ (program : MidProgram) (input : List ℕ) (limits : Limits) (sites : HasSites program) where
+module _ (program : SharedProgram) (input : List ℕ) (limits : Limits) (sites : HasSites program) where
   abbrev LeadGoes : Past → Type 0
   LeadGoes past = (j : ℕ) × LeadAt program (ideal program input limits j) past
 
@@ -97,7 +97,7 @@ module _ (program : MidProgram) (input : List ℕ) (limits : Limits) (sites : Ha
     can_there s₀ w took sent events meet shows can =
         subst₂ (λ x y. CanMeet Lead program x y meet) (same_state past s s₀ at shows.at_so) shows.world_so can
 
-    from_start : (m : Machine) → c.place ≡ Here m → Shows past (Went (lead_side program m 0 [])) c.world c.echoes c.words c.events →
+    from_start : (m : Standing) → c.place ≡ Here m → Shows past (Went (lead_side program m 0 [])) c.world c.echoes c.words c.events →
         (x : Wants) → wants program m ≡ x → (meet : Meet) → CanMeet Lead program (lead_side program m 0 []) c.world meet → LeadGoes (after meet)
     from_start m here shows (Runs next) h Plain can =
         let stands = stands_point program input limits sites i m here in
@@ -115,10 +115,10 @@ module _ (program : MidProgram) (input : List ℕ) (limits : Limits) (sites : Ha
     from_start m here shows (Runs next) h (Failed written) can =
         let stands = stands_point program input limits sites i m here in
         let none = ap (λ g. length g.events) (lead_goes program m stands (next_line program m stands) next c.world h) in absurd (omega (arith, can.1, none))
-    from_start m here shows (Dies trap line) h meet can =
-        let stands = stands_point program input limits sites i m here in absurd (never_dies program m stands (next_line program m stands) trap line h)
-    from_start m here shows Lost h meet can =
-        let stands = stands_point program input limits sites i m here in absurd (never_lost program m stands (next_line program m stands) h)
+    from_start m here shows (Dies words trap line) h meet can =
+        let stands = stands_point program input limits sites i m here in absurd (never_dies program m stands (next_line program m stands) words trap line h)
+    from_start m here shows (Lost words) h meet can =
+        let stands = stands_point program input limits sites i m here in absurd (never_lost program m stands (next_line program m stands) words h)
     from_start m here shows (Requests q) h Plain can =
         let stands = stands_point program input limits sites i m here in
         let some = acks_some program m stands q h in (
@@ -137,7 +137,7 @@ module _ (program : MidProgram) (input : List ℕ) (limits : Limits) (sites : Ha
         let none = ap (λ g. length g.events) (lead_asks program m stands q h c.world) in absurd (omega (arith, can.1, none))
 
     -- an acknowledgement that is right
-    hears : (m : Machine) (q : Request) (heard : List ℕ) (x : ℕ) (rest : List ℕ) → c.place ≡ Here m → wants program m ≡ Requests q → acks_of q ≡ heard ++ x ∷ rest →
+    hears : (m : Standing) (q : Request) (heard : List ℕ) (x : ℕ) (rest : List ℕ) → c.place ≡ Here m → wants program m ≡ Requests q → acks_of q ≡ heard ++ x ∷ rest →
         Shows past (Went (lead_side program m 1 heard)) c.world (c.echoes ++ heard) (c.words ++ checks_of q) c.events → LeadGoes (after (Got x))
     hears m q heard x [] here h acks shows =
         let stands = stands_point program input limits sites i m here in
@@ -154,7 +154,7 @@ module _ (program : MidProgram) (input : List ℕ) (limits : Limits) (sites : Ha
               (shows_on Lead program past _ s (Got x) _ _ _ _ _ _ _ _ shows at (lead_hears_more program m stands q h c.world heard x y rest acks) (append_assoc c.echoes heard (x ∷ [])) (append-nil _) (append-nil _)),
         )
 
-    from_await : (m : Machine) (q : Request) (heard : List ℕ) (x : ℕ) (rest : List ℕ) → c.place ≡ Here m → wants program m ≡ Requests q → acks_of q ≡ heard ++ x ∷ rest →
+    from_await : (m : Standing) (q : Request) (heard : List ℕ) (x : ℕ) (rest : List ℕ) → c.place ≡ Here m → wants program m ≡ Requests q → acks_of q ≡ heard ++ x ∷ rest →
         Shows past (Went (lead_side program m 1 heard)) c.world (c.echoes ++ heard) (c.words ++ checks_of q) c.events →
         (meet : Meet) → CanMeet Lead program (lead_side program m 1 heard) c.world meet → LeadMeets past meet → LeadGoes (after meet)
     from_await m q heard x rest here h acks shows Plain can right =
@@ -171,7 +171,7 @@ module _ (program : MidProgram) (input : List ℕ) (limits : Limits) (sites : Ha
         let same : word ≡ x = next_echo (suc i) right.0 (c.echoes ++ heard) rest word x (subst (λ t. IsPrefix (t ++ word ∷ []) (ideal program input limits right.0).echoes) shows.took_so right.1) all in
         subst (λ y. LeadGoes (after (Got y))) (sym same) (hears m q heard x rest here h acks shows)
 
-    acted : (m : Machine) (q : Request) → c.place ≡ Here m → wants program m ≡ Requests q →
+    acted : (m : Standing) (q : Request) → c.place ≡ Here m → wants program m ≡ Requests q →
         Shows past (Went (lead_side program m 2 [])) c.world (c.echoes ++ acks_of q) (c.words ++ checks_of q) c.events →
         (x : Resumed) → resume program m (ask c.world q).response ≡ x → LeadAt program (record (answered_state program m q c) { place = place_by x }) (after Plain)
     acted m q here h shows (Back next) back =
@@ -183,7 +183,7 @@ module _ (program : MidProgram) (input : List ℕ) (limits : Limits) (sites : Ha
         LeadEnded end refl
         (shows_on Lead program past _ s Plain _ _ _ _ _ _ _ _ shows at (lead_acts_over program m stands q h c.world end over) (append-nil _) refl refl)
 
-    from_act : (m : Machine) (q : Request) → c.place ≡ Here m → wants program m ≡ Requests q →
+    from_act : (m : Standing) (q : Request) → c.place ≡ Here m → wants program m ≡ Requests q →
         Shows past (Went (lead_side program m 2 [])) c.world (c.echoes ++ acks_of q) (c.words ++ checks_of q) c.events →
         (meet : Meet) → CanMeet Lead program (lead_side program m 2 []) c.world meet → LeadGoes (after meet)
     from_act m q here h shows Plain can =

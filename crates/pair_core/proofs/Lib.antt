@@ -18,5 +18,6 @@ pub mod Turning
 pub mod Acting
 pub mod Reaching
 pub mod Faults
+pub mod Counts
 pub mod Counting
 pub mod Alternating

@@ -4,18 +4,19 @@ use Rattle.srmt_base.specs.declared.event.Event.{Event}
 use Rattle.srmt_base.specs.declared.limits.Limits.{Limits}
 use Rattle.srmt_base.specs.declared.side.Side.{Side}
 use Rattle.srmt_base.specs.declared.side.Side.TheVariants.{Lead, Trail}
-use Rattle.mid_code.specs.declared.program.MidProgram.{MidProgram}
+use Rattle.mid_code.specs.Classes.{SharedProgram}
 use Rattle.mid_code.specs.Pairs.{HasSites}
 use Rattle.machine.specs.declared.stepped.Stepped.TheVariants.{NotYet}
 use Rattle.machine.specs.Side.{SideState, Plain, Outcome, Went, Ended}
 use Rattle.machine.specs.Steps.{side_op, takes_at}
 use Rattle.machine.specs.Meets.{next_of, CanMeet}
+use Rattle.machine.specs.Upset.{no_upsets}
 use Rattle.pair_core.specs.Duo.{DuoState, view_of, Finds, Waits, Meets, finds, turn_found, turn_at, turn_of, Reached}
 use Rattle.pair_core.proofs.Finding.{IsFound, found, alike}
 use Rattle.pair_core.proofs.Duos.{Good, Quits, good_scheduled, lead_meets, trail_meets, can_trail}
 use Rattle.pair_core.proofs.Measure.{side_left, duo_left, lead_lowers, trail_lowers}
 
-module _ (program : MidProgram) (input : List ℕ) (limits : Limits) (sites : HasSites program) (duo : DuoState) (events : List Event) (g : Good program input limits duo events) where
+module _ (program : SharedProgram) (input : List ℕ) (limits : Limits) (sites : HasSites program) (duo : DuoState) (events : List Event) (g : Good program input limits duo events) where
   lead_found : (s : SideState) → duo.lead ≡ Went s → (f : Finds) → IsFound (takes_at (side_op Lead program s)) (length (next_of Lead program s duo.world Plain).events) (view_of Lead duo) f →
       (turn_found f Lead program s duo).stepped ≢ NotYet → duo_left program (turn_found f Lead program s duo).state < duo_left program duo
   lead_found s at Waits h goes = absurd (goes refl)
@@ -48,16 +49,16 @@ module _ (program : MidProgram) (input : List ℕ) (limits : Limits) (sites : Ha
   trail_turned fails s (Went t) at e goes = trail_found t at (finds Trail program t duo.world fails (view_of Trail duo)) (found Trail program t duo.world fails (view_of Trail duo)) goes
   trail_turned fails s (Ended end) at e goes = absurd (cc)
 
-  pub good_lowers : (side : Side) (fails : Option ℕ) (s : SideState) → (view_of side duo).at ≡ Went s → (turn_of program side fails duo).stepped ≢ NotYet → duo_left program (turn_of program side fails duo).state < duo_left program duo
+  pub good_lowers : (side : Side) (fails : Option ℕ) (s : SideState) → (view_of side duo).at ≡ Went s → (turn_of program no_upsets side fails duo).stepped ≢ NotYet → duo_left program (turn_of program no_upsets side fails duo).state < duo_left program duo
   good_lowers Lead fails s at goes = lead_turned fails s duo.lead refl at goes
   good_lowers Trail fails s at goes = trail_turned fails s duo.trail refl at goes
 
-pub good_reached : (program : MidProgram) (input : List ℕ) (limits : Limits) (duo : DuoState) (events : List Event) → HasSites program → Reached program input limits duo events → Good program input limits duo events
+pub good_reached : (program : SharedProgram) (input : List ℕ) (limits : Limits) (duo : DuoState) (events : List Event) → HasSites program → Reached program input limits no_upsets duo events → Good program input limits duo events
 good_reached program input limits duo events sites reached =
     subst₂ (λ d e. Good program input limits d e) (ap (λ x. x.duo) reached.1) (ap (λ x. x.events) reached.1) (good_scheduled program input limits sites reached.0)
 
 -- for the loop that runs both sides in turn
-pub reached_lowers : (program : MidProgram) (input : List ℕ) (limits : Limits) (duo : DuoState) (events : List Event) → HasSites program → Reached program input limits duo events →
-    (side : Side) (fails : Option ℕ) (s : SideState) → (view_of side duo).at ≡ Went s → (turn_of program side fails duo).stepped ≢ NotYet → duo_left program (turn_of program side fails duo).state < duo_left program duo
+pub reached_lowers : (program : SharedProgram) (input : List ℕ) (limits : Limits) (duo : DuoState) (events : List Event) → HasSites program → Reached program input limits no_upsets duo events →
+    (side : Side) (fails : Option ℕ) (s : SideState) → (view_of side duo).at ≡ Went s → (turn_of program no_upsets side fails duo).stepped ≢ NotYet → duo_left program (turn_of program no_upsets side fails duo).state < duo_left program duo
 reached_lowers program input limits duo events sites reached side fails s at goes =
     good_lowers program input limits sites duo events (good_reached program input limits duo events sites reached) side fails s at goes

@@ -5,12 +5,12 @@ use Rattle.srmt_base.specs.declared.limits.Limits.{Limits}
 use Rattle.srmt_base.specs.declared.side.Side.{Side}
 use Rattle.srmt_base.specs.declared.side.Side.TheVariants.{Lead, Trail}
 use Rattle.srmt_base.specs.declared.trap.SourceEnd.{SourceEnd}
-use Rattle.mid_code.specs.declared.program.MidProgram.{MidProgram}
+use Rattle.mid_code.specs.Classes.{SharedProgram}
 use Rattle.mid_code.specs.declared.version.VersionLine.{VersionLine}
 use Rattle.mid_code.specs.declared.version.Version.{Version}
-use Rattle.mid_code.specs.Machine.{Machine}
+use Rattle.world.specs.Standing.{Standing}
 use Rattle.mid_code.specs.Pairs.{HasSites}
-use Rattle.mid_code.specs.Versions.{leading_ops, version_at}
+use Rattle.mid_code.specs.Versions.{leading, version_at}
 use Rattle.word_stream.specs.declared.request.Request.{Request}
 use Rattle.word_stream.specs.declared.request.Response.{Response}
 use Rattle.word_stream.specs.Exchange.{checks_of, acks_of}
@@ -43,11 +43,11 @@ version_long versions zero = 0
 version_long versions (suc before) = long_of (slice_get versions before)
 
 -- how much a side has to go: the places of its version, 19 for each, less what it has heard
-abbrev pub side_left : MidProgram → Side → Outcome → ℕ
-side_left program side (Went s) = 19 * (version_long (versions_of side program) s.machine.top.function - s.machine.top.place) - length s.heard
+abbrev pub side_left : SharedProgram → Side → Outcome → ℕ
+side_left program side (Went s) = 19 * (version_long (versions_of side program) s.at.machine.top.function - s.at.machine.top.place) - length s.heard
 side_left program side (Ended end) = 0
 
-abbrev pub duo_left : MidProgram → DuoState → ℕ
+abbrev pub duo_left : SharedProgram → DuoState → ℕ
 duo_left program duo = side_left program Lead duo.lead + side_left program Trail duo.trail
 
 within_one : (o : Option Version) (place : ℕ) (l : VersionLine) → option_and_then (λ v. slice_get v.code place) o ≡ Some l → place < long_of o
@@ -67,25 +67,25 @@ less_heard long p h k within few on = omega arith
 less_over : (long p h : ℕ) → p < long → h < 19 → 0 < 19 * (long - p) - h
 less_over long p h within few = omega arith
 
-module _ (program : MidProgram) (side : Side) (s : SideState) (here : IsPresent side program s) (few : length s.heard < 19) where
-  within : s.machine.top.place < version_long (versions_of side program) s.machine.top.function
-  within = within_long (versions_of side program) s.machine.top.function s.machine.top.place here.0 here.1
+module _ (program : SharedProgram) (side : Side) (s : SideState) (here : IsPresent side program s) (few : length s.heard < 19) where
+  within : s.at.machine.top.place < version_long (versions_of side program) s.at.machine.top.function
+  within = within_long (versions_of side program) s.at.machine.top.function s.at.machine.top.place here.0 here.1
 
   -- it goes on to a later place
-  pub lower_on : (t : SideState) → t.machine.top.function ≡ s.machine.top.function → s.machine.top.place < t.machine.top.place → side_left program side (Went t) < side_left program side (Went s)
+  pub lower_on : (t : SideState) → t.at.machine.top.function ≡ s.at.machine.top.function → s.at.machine.top.place < t.at.machine.top.place → side_left program side (Went t) < side_left program side (Went s)
   lower_on t same on =
-      subst (λ f. 19 * (version_long (versions_of side program) f - t.machine.top.place) - length t.heard < side_left program side (Went s)) (sym same)
-      (less_on (version_long (versions_of side program) s.machine.top.function) s.machine.top.place t.machine.top.place (length s.heard) (length t.heard) within few on)
+      subst (λ f. 19 * (version_long (versions_of side program) f - t.at.machine.top.place) - length t.heard < side_left program side (Went s)) (sym same)
+      (less_on (version_long (versions_of side program) s.at.machine.top.function) s.at.machine.top.place t.at.machine.top.place (length s.heard) (length t.heard) within few on)
 
   pub lower_over : 0 < side_left program side (Went s)
-  lower_over = less_over (version_long (versions_of side program) s.machine.top.function) s.machine.top.place (length s.heard) within few
+  lower_over = less_over (version_long (versions_of side program) s.at.machine.top.function) s.at.machine.top.place (length s.heard) within few
 
 -- a step leaves less to go, and sends few words
-pub record LowerBy (program : MidProgram) (side : Side) (s : SideState) (gives : StepGives) : Type 0 where
+pub record LowerBy (program : SharedProgram) (side : Side) (s : SideState) (gives : StepGives) : Type 0 where
   pub less : side_left program side gives.outcome < side_left program side (Went s)
   pub few : length gives.sent ≤ 18
 
-abbrev pub Lower : MidProgram → Side → SideState → WorldState → Meet → Type 0
+abbrev pub Lower : SharedProgram → Side → SideState → WorldState → Meet → Type 0
 Lower program side s w meet = LowerBy program side s (next_of side program s w meet)
 
 -- a step that takes no word and writes nothing meets nothing
@@ -95,24 +95,24 @@ only_plain taking count (Got word) not_taking none can = absurd (cc)
 only_plain taking count Closed not_taking none can = absurd (cc)
 only_plain taking count (Failed written) not_taking none can = absurd (omega (arith, can.1))
 
-by_law : (program : MidProgram) (side : Side) (s : SideState) (w : WorldState) (meet : Meet) (gives : StepGives) → next_of side program s w meet ≡ gives → length gives.sent ≤ 18 → side_left program side gives.outcome < side_left program side (Went s) → Lower program side s w meet
+by_law : (program : SharedProgram) (side : Side) (s : SideState) (w : WorldState) (meet : Meet) (gives : StepGives) → next_of side program s w meet ≡ gives → length gives.sent ≤ 18 → side_left program side gives.outcome < side_left program side (Went s) → Lower program side s w meet
 by_law program side s w meet gives law few less = subst (LowerBy program side s) (sym law) (record { less = less; few = few })
 
-by_plain : (program : MidProgram) (side : Side) (s : SideState) (w : WorldState) (meet : Meet) (gives : StepGives) → takes_at (side_op side program s) ≡ false → next_of side program s w Plain ≡ gives → length gives.events ≡ 0 → CanMeet side program s w meet → length gives.sent ≤ 18 → side_left program side gives.outcome < side_left program side (Went s) → Lower program side s w meet
+by_plain : (program : SharedProgram) (side : Side) (s : SideState) (w : WorldState) (meet : Meet) (gives : StepGives) → takes_at (side_op side program s) ≡ false → next_of side program s w Plain ≡ gives → length gives.events ≡ 0 → CanMeet side program s w meet → length gives.sent ≤ 18 → side_left program side gives.outcome < side_left program side (Went s) → Lower program side s w meet
 by_plain program side s w meet gives not_taking law none can few less =
     let count : length (next_of side program s w Plain).events ≡ 0 = ap (λ g. length g.events) law ∙ none in
     let plain : meet ≡ Plain = only_plain (takes_at (side_op side program s)) (length (next_of side program s w Plain).events) meet not_taking count can in
     subst (λ x. Lower program side s w x) (sym plain) (by_law program side s w Plain gives law few less)
 
 -- the steps of a group
-module _ (program : MidProgram) (m : Machine) (stands : Stands program m) (w : WorldState) where
+module _ (program : SharedProgram) (m : Standing) (stands : Stands program m) (w : WorldState) where
   lead_start : (x : Wants) → wants program m ≡ x → (meet : Meet) → CanMeet Lead program (lead_side program m 0 []) w meet → Lower program Lead (lead_side program m 0 []) w meet
   lead_start (Runs next) h meet can =
       let n = next_line program m stands in
       by_plain program Lead (lead_side program m 0 []) w meet (gave (Went (lead_side program next 0 [])) [] w []) (lead_runs_takes program m stands n next h) (lead_goes program m stands n next w h) refl can (omega arith)
       (lower_on program Lead (lead_side program m 0 []) (lead_runs_here program m stands n next h) (omega arith) (lead_side program next 0 []) (runs_function program m stands n next h) (omega (arith, lead_runs_place program m stands n next h)))
-  lead_start (Dies trap line) h meet can = absurd (never_dies program m stands (next_line program m stands) trap line h)
-  lead_start Lost h meet can = absurd (never_lost program m stands (next_line program m stands) h)
+  lead_start (Dies words trap line) h meet can = absurd (never_dies program m stands (next_line program m stands) words trap line h)
+  lead_start (Lost words) h meet can = absurd (never_lost program m stands (next_line program m stands) words h)
   lead_start (Requests q) h meet can =
       by_plain program Lead (lead_side program m 0 []) w meet (gave (Went (lead_side program m 1 [])) (checks_of q) w []) (lead_asks_takes program m stands q h) (lead_asks program m stands q h w) refl can (omega (arith, checks_few program m stands q h))
       (lower_on program Lead (lead_side program m 0 []) (lead_ask_here program m stands q h) (omega arith) (lead_side program m 1 []) refl (omega arith))
@@ -133,8 +133,8 @@ module _ (program : MidProgram) (m : Machine) (stands : Stands program m) (w : W
       let n = next_line program m stands in
       by_plain program Trail (trail_side program m 0) w meet (gave (Went (trail_side program next 0)) [] w []) (trail_runs_takes program m stands n next h) (trail_goes program m stands n next w h) refl can (omega arith)
       (lower_on program Trail (trail_side program m 0) (trail_runs_here program m stands n next h) (omega arith) (trail_side program next 0) (runs_function program m stands n next h) (omega (arith, trail_runs_place program m stands n next h)))
-  trail_start (Dies trap line) h meet can right = absurd (never_dies program m stands (next_line program m stands) trap line h)
-  trail_start Lost h meet can right = absurd (never_lost program m stands (next_line program m stands) h)
+  trail_start (Dies words trap line) h meet can right = absurd (never_dies program m stands (next_line program m stands) words trap line h)
+  trail_start (Lost words) h meet can right = absurd (never_lost program m stands (next_line program m stands) words h)
   trail_start (Requests q) h meet can right =
       let some = checks_some program m stands q h in
       trail_check q h [] some.0 some.1 some.2 meet can (λ word got. right q some.0 some.1 word h some.2 got)
@@ -150,7 +150,7 @@ module _ (program : MidProgram) (m : Machine) (stands : Stands program m) (w : W
         let more : length heard < length (heard ++ x ∷ []) = omega (arith, length-append heard (x ∷ [])) in
         let few_now : length heard < 19 = omega arith in
         by_law program Lead (lead_side program m 1 heard) w (Got x) (gave (Went (lead_side program m 1 (heard ++ x ∷ []))) [] w []) (lead_hears_more program m stands q h w heard x y rest acks) (omega arith)
-        (less_heard (version_long (versions_of Lead program) m.top.function) (group_place leading_ops program m + 1) (length heard) (length (heard ++ x ∷ []))
+        (less_heard (version_long (versions_of Lead program) m.machine.top.function) (group_place leading program m + 1) (length heard) (length (heard ++ x ∷ []))
         (within program Lead (lead_side program m 1 heard) (lead_await_here program m stands q h heard) few_now) few more)
 
     lead_await : (heard : List ℕ) (x : ℕ) (rest : List ℕ) → acks_of q ≡ heard ++ x ∷ rest → (meet : Meet) → CanMeet Lead program (lead_side program m 1 heard) w meet → (meet ≡ Closed → ⊥) → ((word : ℕ) → meet ≡ Got word → word ≡ x) → Lower program Lead (lead_side program m 1 heard) w meet
@@ -189,7 +189,7 @@ module _ (program : MidProgram) (m : Machine) (stands : Stands program m) (w : W
         (lower_over program Trail (trail_side program m (suc (length (checks_of q)))) (trail_end_here program m stands q h r end over) (omega arith))
 
 -- the steps of a side beside the ideal run
-module _ (program : MidProgram) (input : List ℕ) (limits : Limits) (sites : HasSites program) (i : ℕ) (past : Past) (s : SideState) (at : past.at ≡ Went s) where
+module _ (program : SharedProgram) (input : List ℕ) (limits : Limits) (sites : HasSites program) (i : ℕ) (past : Past) (s : SideState) (at : past.at ≡ Went s) where
   module _ (meet : Meet) where
     -- what holds where the side is known to stand holds of it
     lower_there : (side : Side) (s₀ : SideState) (w : WorldState) → past.at ≡ Went s₀ → past.world ≡ w → CanMeet side program s past.world meet → (CanMeet side program s₀ w meet → Lower program side s₀ w meet) → Lower program side s past.world meet

@@ -4,45 +4,46 @@ use Rattle.srmt_base.specs.declared.event.Event.{Event}
 use Rattle.srmt_base.specs.declared.limits.Limits.{Limits}
 use Rattle.srmt_base.specs.declared.side.Side.{Side}
 use Rattle.srmt_base.specs.declared.side.Side.TheVariants.{Lead, Trail}
-use Rattle.mid_code.specs.declared.program.MidProgram.{MidProgram}
+use Rattle.mid_code.specs.Classes.{SharedProgram}
 use Rattle.mid_code.specs.Pairs.{HasSites}
 use Rattle.verdicts.specs.declared.thread_end.ThreadEnd.{ThreadEnd}
 use Rattle.machine.specs.declared.stepped.Stepped.TheVariants.{NotYet, Ended as MadeLast}
 use Rattle.machine.specs.Side.{SideState, Meet, Plain, Outcome, Went, Ended}
 use Rattle.machine.specs.Steps.{side_op, takes_at, may_send_at}
 use Rattle.machine.specs.Meets.{next_of}
+use Rattle.machine.specs.Upset.{no_upsets}
 use Rattle.pair_core.specs.Duo.{DuoState, opening_duo, View, view_of, Finds, Waits, Meets, meet_by, finds_room, is_crowded, finds_by, finds, turn_found, turn_at, turn_of, Entry, Scheduled, run_on, Reached}
 use Rattle.pair_core.specs.Laws.{CanGo}
 use Rattle.pair_core.proofs.Finding.{stepped_made}
 use Rattle.pair_core.proofs.Sounds.{sound_reached}
 
-pub reached_opening : (program : MidProgram) (input : List ℕ) (limits : Limits) → Reached program input limits (opening_duo program input limits) []
+pub reached_opening : (program : SharedProgram) (input : List ℕ) (limits : Limits) → Reached program input limits no_upsets (opening_duo program input limits) []
 reached_opening program input limits = ([], refl)
 
-run_more : (program : MidProgram) (entries more : List Entry) (sofar : Scheduled) → run_on program sofar (entries ++ more) ≡ run_on program (run_on program sofar entries) more
+run_more : (program : SharedProgram) (entries more : List Entry) (sofar : Scheduled) → run_on program no_upsets sofar (entries ++ more) ≡ run_on program no_upsets (run_on program no_upsets sofar entries) more
 run_more program [] more sofar = refl
 run_more program (entry ∷ entries) more sofar =
-    run_more program entries more (record { duo = (turn_of program entry.side entry.fails sofar.duo).state; events = sofar.events ++ (turn_of program entry.side entry.fails sofar.duo).events })
+    run_more program entries more (record { duo = (turn_of program no_upsets entry.side entry.fails sofar.duo).state; events = sofar.events ++ (turn_of program no_upsets entry.side entry.fails sofar.duo).events })
 
 -- one event more
-pub reached_turn : (program : MidProgram) (input : List ℕ) (limits : Limits) (duo : DuoState) (events : List Event) → Reached program input limits duo events → (side : Side) (fails : Option ℕ) →
-    Reached program input limits (turn_of program side fails duo).state (events ++ (turn_of program side fails duo).events)
+pub reached_turn : (program : SharedProgram) (input : List ℕ) (limits : Limits) (duo : DuoState) (events : List Event) → Reached program input limits no_upsets duo events → (side : Side) (fails : Option ℕ) →
+    Reached program input limits no_upsets (turn_of program no_upsets side fails duo).state (events ++ (turn_of program no_upsets side fails duo).events)
 reached_turn program input limits duo events reached side fails =
     let entry : Entry = record { side = side; fails = fails } in (
       reached.0 ++ entry ∷ [],
-      run_more program reached.0 (entry ∷ []) (record { duo = opening_duo program input limits; events = [] }) ∙ ap (λ sofar. run_on program sofar (entry ∷ [])) reached.1,
+      run_more program reached.0 (entry ∷ []) (record { duo = opening_duo program input limits; events = [] }) ∙ ap (λ sofar. run_on program no_upsets sofar (entry ∷ [])) reached.1,
     )
 
 -- what waits is left as it is
-waits_found : (side : Side) (program : MidProgram) (s : SideState) (duo : DuoState) (f : Finds) → (turn_found f side program s duo).stepped ≡ NotYet → (f ≡ Waits) × ((turn_found f side program s duo).state ≡ duo) × ((turn_found f side program s duo).events ≡ [])
+waits_found : (side : Side) (program : SharedProgram) (s : SideState) (duo : DuoState) (f : Finds) → (turn_found f side program s duo).stepped ≡ NotYet → (f ≡ Waits) × ((turn_found f side program s duo).state ≡ duo) × ((turn_found f side program s duo).events ≡ [])
 waits_found side program s duo Waits h = (refl, refl, refl)
 waits_found side program s duo (Meets meet left) h = absurd (stepped_made (next_of side program s duo.world meet).outcome h)
 
-waits_at : (side : Side) (program : MidProgram) (fails : Option ℕ) (duo : DuoState) (o : Outcome) → (turn_at o side program fails duo).stepped ≡ NotYet → ((turn_at o side program fails duo).state ≡ duo) × ((turn_at o side program fails duo).events ≡ [])
+waits_at : (side : Side) (program : SharedProgram) (fails : Option ℕ) (duo : DuoState) (o : Outcome) → (turn_at o side program fails duo).stepped ≡ NotYet → ((turn_at o side program fails duo).state ≡ duo) × ((turn_at o side program fails duo).events ≡ [])
 waits_at side program fails duo (Went s) h = let w = waits_found side program s duo (finds side program s duo.world fails (view_of side duo)) h in (w.1, w.2)
 waits_at side program fails duo (Ended end) h = absurd (cc)
 
-pub turn_waits : (program : MidProgram) (side : Side) (fails : Option ℕ) (duo : DuoState) → (turn_of program side fails duo).stepped ≡ NotYet → ((turn_of program side fails duo).state ≡ duo) × ((turn_of program side fails duo).events ≡ [])
+pub turn_waits : (program : SharedProgram) (side : Side) (fails : Option ℕ) (duo : DuoState) → (turn_of program no_upsets side fails duo).stepped ≡ NotYet → ((turn_of program no_upsets side fails duo).state ≡ duo) × ((turn_of program no_upsets side fails duo).events ≡ [])
 turn_waits program side fails duo h = waits_at side program fails duo (view_of side duo).at h
 
 -- whether a side waits does not depend on the outlet
@@ -54,7 +55,7 @@ by_waits : (taking sending : Bool) (view : View) (a b : Meet) → finds_by takin
 by_waits true sending view a b h = h
 by_waits false sending view a b h = room_waits (is_crowded sending view) a b view.coming h
 
-at_waits : (side : Side) (program : MidProgram) (a b : Option ℕ) (duo : DuoState) (o : Outcome) → (turn_at o side program a duo).stepped ≡ NotYet → (turn_at o side program b duo).stepped ≡ NotYet
+at_waits : (side : Side) (program : SharedProgram) (a b : Option ℕ) (duo : DuoState) (o : Outcome) → (turn_at o side program a duo).stepped ≡ NotYet → (turn_at o side program b duo).stepped ≡ NotYet
 at_waits side program a b duo (Went s) h =
     let found = (waits_found side program s duo (finds side program s duo.world a (view_of side duo)) h).0 in
     let count = length (next_of side program s duo.world Plain).events in
@@ -62,37 +63,37 @@ at_waits side program a b duo (Went s) h =
     ap (λ f. (turn_found f side program s duo).stepped) too
 at_waits side program a b duo (Ended end) h = absurd (cc)
 
-pub waits_too : (program : MidProgram) (side : Side) (a b : Option ℕ) (duo : DuoState) → (turn_of program side a duo).stepped ≡ NotYet → (turn_of program side b duo).stepped ≡ NotYet
+pub waits_too : (program : SharedProgram) (side : Side) (a b : Option ℕ) (duo : DuoState) → (turn_of program no_upsets side a duo).stepped ≡ NotYet → (turn_of program no_upsets side b duo).stepped ≡ NotYet
 waits_too program side a b duo h = at_waits side program a b duo (view_of side duo).at h
 
 -- a side that waits leaves the other to go, and one that has ended beside one that waits does not stand
-module _ (program : MidProgram) (input : List ℕ) (limits : Limits) (duo : DuoState) (events : List Event) (sites : HasSites program) (reached : Reached program input limits duo events) where
-  cannot : (side : Side) (fails : Option ℕ) → (turn_of program side fails duo).stepped ≡ NotYet → CanGo program side duo → ⊥
+module _ (program : SharedProgram) (input : List ℕ) (limits : Limits) (duo : DuoState) (events : List Event) (sites : HasSites program) (reached : Reached program input limits no_upsets duo events) where
+  cannot : (side : Side) (fails : Option ℕ) → (turn_of program no_upsets side fails duo).stepped ≡ NotYet → CanGo program no_upsets side duo → ⊥
   cannot side fails waits can = can.goes (waits_too program side fails None duo waits)
 
-  pub trail_goes_on : (fails : Option ℕ) → (turn_of program Lead fails duo).stepped ≡ NotYet → (other : Option ℕ) → (turn_of program Trail other duo).stepped ≢ NotYet
+  pub trail_goes_on : (fails : Option ℕ) → (turn_of program no_upsets Lead fails duo).stepped ≡ NotYet → (other : Option ℕ) → (turn_of program no_upsets Trail other duo).stepped ≢ NotYet
   trail_goes_on fails waits other too =
-      elim (sound_reached program input limits duo events sites reached).goes as (λ _. ⊥) [
+      elim (sound_reached program input limits duo events sites reached).ends_well.goes as (λ _. ⊥) [
         | inl can ↦ cannot Lead fails waits can
         | inr (inl can) ↦ cannot Trail other too can
-        | inr (inr both) ↦ let no : (turn_of program Lead fails duo).stepped ≡ MadeLast both.0.0 = ap (λ o. (turn_at o Lead program fails duo).stepped) both.0.1 in
+        | inr (inr both) ↦ let no : (turn_of program no_upsets Lead fails duo).stepped ≡ MadeLast both.0.0 = ap (λ o. (turn_at o Lead program fails duo).stepped) both.0.1 in
             let clash : NotYet ≡ MadeLast both.0.0 = sym waits ∙ no in cc
       ]
 
-  pub trail_goes_alone : (end : ThreadEnd) → duo.lead ≡ Ended end → (other : Option ℕ) → (turn_of program Trail other duo).stepped ≢ NotYet
+  pub trail_goes_alone : (end : ThreadEnd) → duo.lead ≡ Ended end → (other : Option ℕ) → (turn_of program no_upsets Trail other duo).stepped ≢ NotYet
   trail_goes_alone end over other too =
-      elim (sound_reached program input limits duo events sites reached).goes as (λ _. ⊥) [
+      elim (sound_reached program input limits duo events sites reached).ends_well.goes as (λ _. ⊥) [
         | inl can ↦ can.goes_on end over
         | inr (inl can) ↦ cannot Trail other too can
-        | inr (inr both) ↦ let no : (turn_of program Trail other duo).stepped ≡ MadeLast both.1.0 = ap (λ o. (turn_at o Trail program other duo).stepped) both.1.1 in
+        | inr (inr both) ↦ let no : (turn_of program no_upsets Trail other duo).stepped ≡ MadeLast both.1.0 = ap (λ o. (turn_at o Trail program other duo).stepped) both.1.1 in
             let clash : NotYet ≡ MadeLast both.1.0 = sym too ∙ no in cc
       ]
 
-  pub lead_goes_alone : (end : ThreadEnd) → duo.trail ≡ Ended end → (other : Option ℕ) → (turn_of program Lead other duo).stepped ≢ NotYet
+  pub lead_goes_alone : (end : ThreadEnd) → duo.trail ≡ Ended end → (other : Option ℕ) → (turn_of program no_upsets Lead other duo).stepped ≢ NotYet
   lead_goes_alone end over other too =
-      elim (sound_reached program input limits duo events sites reached).goes as (λ _. ⊥) [
+      elim (sound_reached program input limits duo events sites reached).ends_well.goes as (λ _. ⊥) [
         | inl can ↦ cannot Lead other too can
         | inr (inl can) ↦ can.goes_on end over
-        | inr (inr both) ↦ let no : (turn_of program Lead other duo).stepped ≡ MadeLast both.0.0 = ap (λ o. (turn_at o Lead program other duo).stepped) both.0.1 in
+        | inr (inr both) ↦ let no : (turn_of program no_upsets Lead other duo).stepped ≡ MadeLast both.0.0 = ap (λ o. (turn_at o Lead program other duo).stepped) both.0.1 in
             let clash : NotYet ≡ MadeLast both.0.0 = sym too ∙ no in cc
       ]

@@ -1,24 +1,25 @@
 -- What holds of both sides beside the ideal run, as callers read it.
-use Rattle.std.proofs.Common.{◌≡◌, ℕ, ◌⊎◌, inl, inr, true, List, sym, ap, ◌∙◌, subst, subst₂}
+use Rattle.std.proofs.Common.{◌≡◌, ℕ, ◌⊎◌, inl, inr, true, List, ◌++◌, refl, sym, ap, ◌∙◌, subst, subst₂}
 use Rattle.srmt_base.specs.declared.event.Event.{Event}
 use Rattle.srmt_base.specs.declared.limits.Limits.{Limits}
 use Rattle.srmt_base.specs.declared.trap.SourceEnd.{SourceEnd}
-use Rattle.mid_code.specs.declared.program.MidProgram.{MidProgram}
+use Rattle.mid_code.specs.Classes.{SharedProgram}
 use Rattle.mid_code.specs.Pairs.{HasSites}
 use Rattle.world.specs.Ideal.{Ended as PlaceEnded, ideal, IsIdeal}
 use Rattle.verdicts.specs.declared.thread_end.ThreadEnd.{ThreadEnd}
 use Rattle.verdicts.specs.declared.thread_end.ThreadEnd.TheVariants.{PeerEnded, WriteFault}
-use Rattle.machine.specs.Side.{Ended}
+use Rattle.machine.specs.Side.{Outcome, Went, Ended}
+use Rattle.machine.specs.Upset.{no_upsets}
 use Rattle.pair_core.specs.Fit.{IsPrefix, IsOver, Fit}
 use Rattle.pair_core.specs.Duo.{DuoState, is_over, Entry, scheduled, Reached}
-use Rattle.pair_core.specs.Laws.{end_as, IsClean, IdealWords, IdealEvents, AsIdeal, Sound}
-use Rattle.pair_core.proofs.Prefixes.{prefix_trans}
+use Rattle.pair_core.specs.Laws.{end_as, IsClean, IdealWords, IdealEvents, AsIdeal, IsOnWay, IsFitState, FollowsIdealRun, Sound}
+use Rattle.pair_core.proofs.Prefixes.{prefix_refl, prefix_trans}
 use Rattle.pair_core.proofs.Ideals.{below_end, one_end}
-use Rattle.pair_core.proofs.Bounds.{not_closed, lead_words, lead_events, lead_clean, lead_final, trail_clean, trail_final}
+use Rattle.pair_core.proofs.Bounds.{not_closed, lead_words, lead_events, lead_clean, lead_final, trail_clean, trail_no_fault, trail_final}
 use Rattle.pair_core.proofs.Duos.{Good, Quits, good_scheduled}
 use Rattle.pair_core.proofs.Standing.{goes_on}
 
-module _ (program : MidProgram) (input : List ℕ) (limits : Limits) (sites : HasSites program) (duo : DuoState) (events : List Event) (g : Good program input limits duo events) where
+module _ (program : SharedProgram) (input : List ℕ) (limits : Limits) (sites : HasSites program) (duo : DuoState) (events : List Event) (g : Good program input limits duo events) where
   lead_ended : (end : ThreadEnd) → duo.lead ≡ Ended end → is_over g.lead.at ≡ true
   lead_ended end e = ap is_over (sym g.is_lead ∙ e)
 
@@ -45,7 +46,7 @@ module _ (program : MidProgram) (input : List ℕ) (limits : Limits) (sites : Ha
         | inr quit ↦ (quit.1, (WriteFault, quit.0))
       ]
 
-  pub good_fit : Fit program input limits duo.lead_steps duo.trail_steps
+  pub good_fit : Fit program input limits no_upsets duo.lead_steps duo.trail_steps
   good_fit = record {
     lead = g.lead;
     trail = g.trail;
@@ -79,28 +80,49 @@ module _ (program : MidProgram) (input : List ℕ) (limits : Limits) (sites : Ha
         ]
       ]
 
-  pub sound : Sound program input limits duo events
+  on_way : (at : Outcome) (sent took way : List ℕ) → sent ≡ took ++ way → IsOnWay at sent took way
+  on_way (Went s) sent took way e = e
+  on_way (Ended end) sent took way e = subst (IsPrefix (took ++ way)) (sym e) (prefix_refl (took ++ way))
+
+  pub fit_state : IsFitState program input limits no_upsets duo events
   unfolding good_fit
-  sound = record {
+  fit_state = record {
     fit = good_fit;
-    lead = g.is_lead;
-    trail = g.is_trail;
+    lead = g.lead;
+    trail = g.trail;
+    lead_now = inl refl;
+    trail_now = inl refl;
+    lead_at = g.is_lead;
+    trail_at = g.is_trail;
     world = g.is_world;
+    applied = g.applied;
     written = g.written;
     words_sent = g.words_sent;
     acks_sent = g.acks_sent;
-    words = g.words;
-    acks = g.acks;
+    words = on_way duo.trail g.lead.sent g.trail.took duo.words g.words;
+    acks = on_way duo.lead g.trail.sent g.lead.took duo.acks g.acks;
+  }
+
+  follows : FollowsIdealRun program input limits duo g.lead g.trail events
+  follows = record {
     ideal_words = lead_words program input limits sites g.i g.lead g.lead_at;
     ideal_events = let e = lead_events program input limits sites g.i g.lead g.lead_at in (e.0, subst (λ t. IsPrefix t (ideal program input limits e.0).events) (sym g.written) e.1);
     lead_clean = subst IsClean (sym g.is_lead) (lead_clean program input limits sites g.i g.lead g.lead_at);
     trail_clean = subst IsClean (sym g.is_trail) (trail_clean program input limits sites g.j (Quits g.lead) g.trail g.trail_at);
-    ends = ends_by;
-    goes = goes_on program input limits sites duo events g;
+    words = g.words;
+    acks = g.acks;
+  }
+
+  pub sound : Sound program input limits no_upsets duo events
+  unfolding good_fit fit_state
+  sound = record {
+    fits = fit_state;
+    follows = λ none. follows;
+    ends_well = record { ends = λ none. ends_by; goes = goes_on program input limits sites duo events g };
   }
 
 -- what comes first after some steps of the ideal run comes first in all that it writes
-module _ (program : MidProgram) (input : List ℕ) (limits : Limits) (sites : HasSites program) where
+module _ (program : SharedProgram) (input : List ℕ) (limits : Limits) (sites : HasSites program) where
   pub first_words : (words all : List ℕ) (events : List Event) (end : SourceEnd) → IdealWords program input limits words → IsIdeal program input limits all events end → IsPrefix words all
   first_words words all events end first whole =
       subst (IsPrefix words) whole.words_so (prefix_trans words (ideal program input limits first.0).words _ first.1 (below_end program input limits sites whole.steps first.0 end whole.ended).words)
@@ -110,10 +132,16 @@ module _ (program : MidProgram) (input : List ℕ) (limits : Limits) (sites : Ha
       subst (IsPrefix events) whole.events_so (prefix_trans events (ideal program input limits first.0).events _ first.1 (below_end program input limits sites whole.steps first.0 end whole.ended).events)
 
 -- every schedule
-pub sound_scheduled : (program : MidProgram) (input : List ℕ) (limits : Limits) → HasSites program → (entries : List Entry) → Sound program input limits (scheduled program input limits entries).duo (scheduled program input limits entries).events
+pub sound_scheduled : (program : SharedProgram) (input : List ℕ) (limits : Limits) → HasSites program → (entries : List Entry) → Sound program input limits no_upsets (scheduled program input limits no_upsets entries).duo (scheduled program input limits no_upsets entries).events
 sound_scheduled program input limits sites entries =
-    sound program input limits sites (scheduled program input limits entries).duo (scheduled program input limits entries).events (good_scheduled program input limits sites entries)
+    sound program input limits sites (scheduled program input limits no_upsets entries).duo (scheduled program input limits no_upsets entries).events (good_scheduled program input limits sites entries)
 
-pub sound_reached : (program : MidProgram) (input : List ℕ) (limits : Limits) (duo : DuoState) (events : List Event) → HasSites program → Reached program input limits duo events → Sound program input limits duo events
+-- the trailing side never ends by an event that failed
+pub no_trail_fault : (program : SharedProgram) (input : List ℕ) (limits : Limits) → HasSites program → (entries : List Entry) → (scheduled program input limits no_upsets entries).duo.trail ≡ Ended WriteFault → ⊥
+no_trail_fault program input limits sites entries h =
+    let g = good_scheduled program input limits sites entries in
+    trail_no_fault program input limits sites g.j (Quits g.lead) g.trail g.trail_at (sym g.is_trail ∙ h)
+
+pub sound_reached : (program : SharedProgram) (input : List ℕ) (limits : Limits) (duo : DuoState) (events : List Event) → HasSites program → Reached program input limits no_upsets duo events → Sound program input limits no_upsets duo events
 sound_reached program input limits duo events sites reached =
-    subst₂ (λ d e. Sound program input limits d e) (ap (λ x. x.duo) reached.1) (ap (λ x. x.events) reached.1) (sound_scheduled program input limits sites reached.0)
+    subst₂ (λ d e. Sound program input limits no_upsets d e) (ap (λ x. x.duo) reached.1) (ap (λ x. x.events) reached.1) (sound_scheduled program input limits sites reached.0)

@@ -5,12 +5,13 @@ use Rattle.srmt_base.specs.declared.event.Event.{Event}
 use Rattle.srmt_base.specs.declared.limits.Limits.{Limits}
 use Rattle.srmt_base.specs.declared.side.Side.{Side}
 use Rattle.srmt_base.specs.declared.side.Side.TheVariants.{Lead, Trail}
-use Rattle.mid_code.specs.declared.program.MidProgram.{MidProgram}
+use Rattle.mid_code.specs.Classes.{SharedProgram}
 use Rattle.mid_code.specs.Pairs.{HasSites}
 use Rattle.world.specs.Ideal.{ideal}
 use Rattle.machine.specs.Side.{SideState, Outcome, Went, Ended}
 use Rattle.machine.specs.Steps.{side_op, takes_at, may_send_at}
 use Rattle.machine.specs.Meets.{next_of}
+use Rattle.machine.specs.Upset.{no_upsets}
 use Rattle.pair_core.specs.Fit.{IsOver}
 use Rattle.pair_core.specs.Duo.{DuoState, is_over, view_of, Finds, Waits, Meets, finds, stepped_of, turn_found, turn_at, turn_of}
 use Rattle.pair_core.specs.Laws.{CanGo}
@@ -21,21 +22,21 @@ use Rattle.pair_core.proofs.Finding.{stepped_made, Why, Hungry, Crowded, why}
 use Rattle.pair_core.proofs.Duos.{Good, Quits}
 
 -- a side that has not ended can go, or waits for a reason
-module _ (side : Side) (program : MidProgram) (duo : DuoState) (s : SideState) (at : (view_of side duo).at ≡ Went s) where
-  tried_found : (f : Finds) → finds side program s duo.world None (view_of side duo) ≡ f → CanGo program side duo ⊎ Why (takes_at (side_op side program s)) (may_send_at (side_op side program s)) (view_of side duo)
+module _ (side : Side) (program : SharedProgram) (duo : DuoState) (s : SideState) (at : (view_of side duo).at ≡ Went s) where
+  tried_found : (f : Finds) → finds side program s duo.world None (view_of side duo) ≡ f → CanGo program no_upsets side duo ⊎ Why (takes_at (side_op side program s)) (may_send_at (side_op side program s)) (view_of side duo)
   tried_found Waits e = inr (why side program s duo.world None (view_of side duo) e)
   tried_found (Meets meet left) e = inl (record {
     goes_on = λ end h. let both : Went s ≡ Ended end = sym at ∙ h in cc;
     goes = λ stuck. stepped_made (next_of side program s duo.world meet).outcome (sym made ∙ stuck);
   })
     where
-      made : (turn_of program side None duo).stepped ≡ stepped_of (next_of side program s duo.world meet).outcome
+      made : (turn_of program no_upsets side None duo).stepped ≡ stepped_of (next_of side program s duo.world meet).outcome
       made = ap (λ o. (turn_at o side program None duo).stepped) at ∙ ap (λ f. (turn_found f side program s duo).stepped) e
 
-  pub tried : CanGo program side duo ⊎ Why (takes_at (side_op side program s)) (may_send_at (side_op side program s)) (view_of side duo)
+  pub tried : CanGo program no_upsets side duo ⊎ Why (takes_at (side_op side program s)) (may_send_at (side_op side program s)) (view_of side duo)
   tried = tried_found (finds side program s duo.world None (view_of side duo)) refl
 
-module _ (program : MidProgram) (input : List ℕ) (limits : Limits) (sites : HasSites program) (duo : DuoState) (events : List Event) (g : Good program input limits duo events) where
+module _ (program : SharedProgram) (input : List ℕ) (limits : Limits) (sites : HasSites program) (duo : DuoState) (events : List Event) (g : Good program input limits duo events) where
   more_words : (k l : ℕ) → k ≤ l → length (ideal program input limits k).words ≤ length (ideal program input limits l).words
   more_words k l h = prefix_length _ _ (grows program input limits sites k l h).words
 
@@ -80,11 +81,11 @@ module _ (program : MidProgram) (input : List ℕ) (limits : Limits) (sites : Ha
     standstill (Crowded rests sends over many) (Hungry checks ended words) = omega (arith, many, ap length words)
     standstill (Crowded rests sends over many) (Crowded no_check acking ended full) = both_crowded rests no_check acking (omega (arith, full))
 
-    both_go : CanGo program Lead duo ⊎ CanGo program Trail duo ⊎ (IsOver duo.lead × IsOver duo.trail)
+    both_go : CanGo program no_upsets Lead duo ⊎ CanGo program no_upsets Trail duo ⊎ (IsOver duo.lead × IsOver duo.trail)
     both_go =
-        elim (tried Lead program duo s lead) as (λ _. CanGo program Lead duo ⊎ CanGo program Trail duo ⊎ (IsOver duo.lead × IsOver duo.trail)) [
+        elim (tried Lead program duo s lead) as (λ _. CanGo program no_upsets Lead duo ⊎ CanGo program no_upsets Trail duo ⊎ (IsOver duo.lead × IsOver duo.trail)) [
           | inl goes ↦ inl goes
-          | inr waits ↦ elim (tried Trail program duo t trail) as (λ _. CanGo program Lead duo ⊎ CanGo program Trail duo ⊎ (IsOver duo.lead × IsOver duo.trail)) [
+          | inr waits ↦ elim (tried Trail program duo t trail) as (λ _. CanGo program no_upsets Lead duo ⊎ CanGo program no_upsets Trail duo ⊎ (IsOver duo.lead × IsOver duo.trail)) [
             | inl goes ↦ inr (inl goes)
             | inr too ↦ absurd (standstill waits too)
           ]
@@ -94,18 +95,18 @@ module _ (program : MidProgram) (input : List ℕ) (limits : Limits) (sites : Ha
   not_alone side taking sending over (Hungry takes ended coming) = let no : true ≡ false = sym over ∙ ended in cc
   not_alone side taking sending over (Crowded takes sends ended many) = let no : true ≡ false = sym over ∙ ended in cc
 
-  alone : (side : Side) (s : SideState) → (view_of side duo).at ≡ Went s → (view_of side duo).peer_over ≡ true → CanGo program side duo
+  alone : (side : Side) (s : SideState) → (view_of side duo).at ≡ Went s → (view_of side duo).peer_over ≡ true → CanGo program no_upsets side duo
   alone side s at over =
-      elim (tried side program duo s at) as (λ _. CanGo program side duo) [
+      elim (tried side program duo s at) as (λ _. CanGo program no_upsets side duo) [
         | inl goes ↦ goes
         | inr waits ↦ absurd (not_alone side _ _ over waits)
       ]
 
-  goes_by : (o p : Outcome) → duo.lead ≡ o → duo.trail ≡ p → CanGo program Lead duo ⊎ CanGo program Trail duo ⊎ (IsOver duo.lead × IsOver duo.trail)
+  goes_by : (o p : Outcome) → duo.lead ≡ o → duo.trail ≡ p → CanGo program no_upsets Lead duo ⊎ CanGo program no_upsets Trail duo ⊎ (IsOver duo.lead × IsOver duo.trail)
   goes_by (Went s) (Went t) lead trail = both_go s t lead trail
   goes_by (Went s) (Ended end) lead trail = inl (alone Lead s lead (ap is_over trail))
   goes_by (Ended end) (Went t) lead trail = inr (inl (alone Trail t trail (ap is_over lead)))
   goes_by (Ended a) (Ended b) lead trail = inr (inr ((a, lead), (b, trail)))
 
-  pub goes_on : CanGo program Lead duo ⊎ CanGo program Trail duo ⊎ (IsOver duo.lead × IsOver duo.trail)
+  pub goes_on : CanGo program no_upsets Lead duo ⊎ CanGo program no_upsets Trail duo ⊎ (IsOver duo.lead × IsOver duo.trail)
   goes_on = goes_by duo.lead duo.trail refl refl

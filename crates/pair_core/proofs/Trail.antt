@@ -3,8 +3,8 @@ use Rattle.std.proofs.Common.{◌≡◌, ℕ, suc, ◌+◌, List, [], ◌∷◌,
 use Rattle.srmt_base.specs.declared.limits.Limits.{Limits}
 use Rattle.srmt_base.specs.declared.side.Side.TheVariants.{Trail}
 use Rattle.srmt_base.specs.declared.trap.SourceEnd.{SourceEnd}
-use Rattle.mid_code.specs.declared.program.MidProgram.{MidProgram}
-use Rattle.mid_code.specs.Machine.{Machine}
+use Rattle.mid_code.specs.Classes.{SharedProgram}
+use Rattle.world.specs.Standing.{Standing}
 use Rattle.mid_code.specs.Pairs.{HasSites}
 use Rattle.word_stream.specs.declared.request.Request.{Request}
 use Rattle.word_stream.specs.declared.request.Response.{Response}
@@ -33,7 +33,7 @@ pub record Tells (past : Past) (at : Outcome) (took sent : List ℕ) : Type 0 wh
   pub took_so : past.took ≡ took
   pub sent_so : past.sent ≡ sent
 
-tells_on : (program : MidProgram) (past : Past) (s s' : SideState) (meet : Meet) (took sent : List ℕ) (gives : StepGives) (at' : Outcome) (took' sent' : List ℕ) →
+tells_on : (program : SharedProgram) (past : Past) (s s' : SideState) (meet : Meet) (took sent : List ℕ) (gives : StepGives) (at' : Outcome) (took' sent' : List ℕ) →
     Tells past (Went s) took sent → past.at ≡ Went s' → trail_next program s past.world meet ≡ gives →
     gives.outcome ≡ at' → took ++ word_met meet ≡ took' → sent ++ gives.sent ≡ sent' →
     Tells (grown past meet (next_of Trail program s' past.world meet)) at' took' sent'
@@ -46,26 +46,26 @@ tells_on program past s s' meet took sent gives at' took' sent' tells at law d e
     }
 
 -- where the trailing side can be beside a state of the ideal run
-pub data TrailAt (program : MidProgram) (c : IdealState) (quit : List ℕ → Type 0) (past : Past) : Type 0 where
+pub data TrailAt (program : SharedProgram) (c : IdealState) (quit : List ℕ → Type 0) (past : Past) : Type 0 where
   -- at the first instruction of the group
-  TrailStarts : (m : Machine) → c.place ≡ Here m → Tells past (Went (trail_side program m 0)) c.words c.echoes → TrailAt program c quit past
+  TrailStarts : (m : Standing) → c.place ≡ Here m → Tells past (Went (trail_side program m 0)) c.words c.echoes → TrailAt program c quit past
   -- it has checked some words of its request, and checks another
-  TrailChecks : (m : Machine) (q : Request) (done : List ℕ) (x : ℕ) (rest : List ℕ) → c.place ≡ Here m → wants program m ≡ Requests q → checks_of q ≡ done ++ x ∷ rest →
+  TrailChecks : (m : Standing) (q : Request) (done : List ℕ) (x : ℕ) (rest : List ℕ) → c.place ≡ Here m → wants program m ≡ Requests q → checks_of q ≡ done ++ x ∷ rest →
       Tells past (Went (trail_side program m (length done))) (c.words ++ done) c.echoes → TrailAt program c quit past
   -- all were right, and are to be acknowledged
-  TrailAcks : (m : Machine) (q : Request) → c.place ≡ Here m → wants program m ≡ Requests q →
+  TrailAcks : (m : Standing) (q : Request) → c.place ≡ Here m → wants program m ≡ Requests q →
       Tells past (Went (trail_side program m (length (checks_of q)))) (c.words ++ checks_of q) c.echoes → TrailAt program c quit past
   -- the request ends the run
-  TrailEnding : (m : Machine) (q : Request) (r : Response) (end : SourceEnd) → c.place ≡ Owed m r → wants program m ≡ Requests q → resume program m r ≡ Over end →
+  TrailEnding : (m : Standing) (q : Request) (r : Response) (end : SourceEnd) → c.place ≡ Owed m r → wants program m ≡ Requests q → resume program m r ≡ Over end →
       Tells past (Went (trail_side program m (suc (length (checks_of q))))) c.words c.echoes → TrailAt program c quit past
   -- it has ended as the ideal run has
   TrailEnded : (end : SourceEnd) → c.place ≡ PlaceEnded end → Tells past (Ended (end_as end)) c.words c.echoes → TrailAt program c quit past
   -- it was to take a word, and none will come: this is known of what it took
-  TrailGone : (m : Machine) (q : Request) (done : List ℕ) (x : ℕ) (rest : List ℕ) → c.place ≡ Here m → wants program m ≡ Requests q → checks_of q ≡ done ++ x ∷ rest →
+  TrailGone : (m : Standing) (q : Request) (done : List ℕ) (x : ℕ) (rest : List ℕ) → c.place ≡ Here m → wants program m ≡ Requests q → checks_of q ≡ done ++ x ∷ rest →
       Tells past (Ended PeerEnded) (c.words ++ done) c.echoes → quit past.took → TrailAt program c quit past
 
 -- what is known can be put another way
-pub trail_as : (program : MidProgram) (c : IdealState) (quit other : List ℕ → Type 0) (past : Past) → ((took : List ℕ) → quit took → other took) → TrailAt program c quit past → TrailAt program c other past
+pub trail_as : (program : SharedProgram) (c : IdealState) (quit other : List ℕ → Type 0) (past : Past) → ((took : List ℕ) → quit took → other took) → TrailAt program c quit past → TrailAt program c other past
 trail_as program c quit other past f (TrailStarts m here tells) = TrailStarts m here tells
 trail_as program c quit other past f (TrailChecks m q done x rest here h checks tells) = TrailChecks m q done x rest here h checks tells
 trail_as program c quit other past f (TrailAcks m q here h tells) = TrailAcks m q here h tells
@@ -73,7 +73,7 @@ trail_as program c quit other past f (TrailEnding m q r end owed h over tells) =
 trail_as program c quit other past f (TrailEnded end ended tells) = TrailEnded end ended tells
 trail_as program c quit other past f (TrailGone m q done x rest here h checks tells gone) = TrailGone m q done x rest here h checks tells (f past.took gone)
 
-module _ (program : MidProgram) (input : List ℕ) (limits : Limits) (sites : HasSites program) (quit : List ℕ → Type 0) where
+module _ (program : SharedProgram) (input : List ℕ) (limits : Limits) (sites : HasSites program) (quit : List ℕ → Type 0) where
   abbrev TrailGoes : Past → Type 0
   TrailGoes past = (j : ℕ) × TrailAt program (ideal program input limits j) quit past
 
@@ -103,7 +103,7 @@ module _ (program : MidProgram) (input : List ℕ) (limits : Limits) (sites : Ha
         subst (λ x. CanMeet Trail program x past.world meet) (same_state past s s₀ at tells.at_so) can
 
     -- a word that is right
-    checked : (m : Machine) (q : Request) (done : List ℕ) (x : ℕ) (rest : List ℕ) → c.place ≡ Here m → wants program m ≡ Requests q → checks_of q ≡ done ++ x ∷ rest →
+    checked : (m : Standing) (q : Request) (done : List ℕ) (x : ℕ) (rest : List ℕ) → c.place ≡ Here m → wants program m ≡ Requests q → checks_of q ≡ done ++ x ∷ rest →
         Tells past (Went (trail_side program m (length done))) (c.words ++ done) c.echoes → TrailGoes (after (Got x))
     checked m q done x [] here h checks tells =
         let stands = stands_point program input limits sites i m here in
@@ -122,7 +122,7 @@ module _ (program : MidProgram) (input : List ℕ) (limits : Limits) (sites : Ha
               (tells_on program past _ s (Got x) _ _ _ _ _ _ tells at (trail_checks program m stands q h past.world done x (y ∷ rest) checks) (ap (λ k. Went (trail_side program m k)) place) (append_assoc c.words done (x ∷ [])) (append-nil _)),
         )
 
-    from_check : (m : Machine) (q : Request) (done : List ℕ) (x : ℕ) (rest : List ℕ) → c.place ≡ Here m → wants program m ≡ Requests q → checks_of q ≡ done ++ x ∷ rest →
+    from_check : (m : Standing) (q : Request) (done : List ℕ) (x : ℕ) (rest : List ℕ) → c.place ≡ Here m → wants program m ≡ Requests q → checks_of q ≡ done ++ x ∷ rest →
         Tells past (Went (trail_side program m (length done))) (c.words ++ done) c.echoes →
         (meet : Meet) → CanMeet Trail program (trail_side program m (length done)) past.world meet → TrailMeets past meet → TrailGoes (after meet)
     from_check m q done x rest here h checks tells Plain can right =
@@ -144,7 +144,7 @@ module _ (program : MidProgram) (input : List ℕ) (limits : Limits) (sites : Ha
         let same : word ≡ x = next_word (suc i) right.0 (c.words ++ done) rest word x (subst (λ t. IsPrefix (t ++ word ∷ []) (ideal program input limits right.0).words) tells.took_so right.1) all in
         subst (λ y. TrailGoes (after (Got y))) (sym same) (checked m q done x rest here h checks tells)
 
-    from_start : (m : Machine) → c.place ≡ Here m → Tells past (Went (trail_side program m 0)) c.words c.echoes →
+    from_start : (m : Standing) → c.place ≡ Here m → Tells past (Went (trail_side program m 0)) c.words c.echoes →
         (x : Wants) → wants program m ≡ x → (meet : Meet) → CanMeet Trail program (trail_side program m 0) past.world meet → TrailMeets past meet → TrailGoes (after meet)
     from_start m here tells (Runs next) h Plain can right =
         let stands = stands_point program input limits sites i m here in (
@@ -161,17 +161,17 @@ module _ (program : MidProgram) (input : List ℕ) (limits : Limits) (sites : Ha
     from_start m here tells (Runs next) h (Failed written) can right =
         let stands = stands_point program input limits sites i m here in
         let none = ap (λ g. length g.events) (trail_goes program m stands (next_line program m stands) next past.world h) in absurd (omega (arith, can.1, none))
-    from_start m here tells (Dies trap line) h meet can right =
-        let stands = stands_point program input limits sites i m here in absurd (never_dies program m stands (next_line program m stands) trap line h)
-    from_start m here tells Lost h meet can right =
-        let stands = stands_point program input limits sites i m here in absurd (never_lost program m stands (next_line program m stands) h)
+    from_start m here tells (Dies words trap line) h meet can right =
+        let stands = stands_point program input limits sites i m here in absurd (never_dies program m stands (next_line program m stands) words trap line h)
+    from_start m here tells (Lost words) h meet can right =
+        let stands = stands_point program input limits sites i m here in absurd (never_lost program m stands (next_line program m stands) words h)
     from_start m here tells (Requests q) h meet can right =
         let stands = stands_point program input limits sites i m here in
         let some = checks_some program m stands q h in
         from_check m q [] some.0 some.1 here h some.2
         (record { at_so = tells.at_so; took_so = tells.took_so ∙ sym (append-nil c.words); sent_so = tells.sent_so }) meet can right
 
-    acked : (m : Machine) (q : Request) → c.place ≡ Here m → wants program m ≡ Requests q → Tells past (Went (trail_side program m (length (checks_of q)))) (c.words ++ checks_of q) c.echoes →
+    acked : (m : Standing) (q : Request) → c.place ≡ Here m → wants program m ≡ Requests q → Tells past (Went (trail_side program m (length (checks_of q)))) (c.words ++ checks_of q) c.echoes →
         (x : Resumed) → resume program m (ask c.world q).response ≡ x → TrailGoes (after Plain)
     acked m q here h tells (Back next) back =
         let stands = stands_point program input limits sites i m here in
@@ -190,7 +190,7 @@ module _ (program : MidProgram) (input : List ℕ) (limits : Limits) (sites : Ha
               (tells_on program past _ s Plain _ _ _ _ _ _ tells at (trail_acks_over program m stands q h past.world r end over) refl (append-nil _) refl)),
         )
 
-    from_acks : (m : Machine) (q : Request) → c.place ≡ Here m → wants program m ≡ Requests q → Tells past (Went (trail_side program m (length (checks_of q)))) (c.words ++ checks_of q) c.echoes →
+    from_acks : (m : Standing) (q : Request) → c.place ≡ Here m → wants program m ≡ Requests q → Tells past (Went (trail_side program m (length (checks_of q)))) (c.words ++ checks_of q) c.echoes →
         (meet : Meet) → CanMeet Trail program (trail_side program m (length (checks_of q))) past.world meet → TrailGoes (after meet)
     from_acks m q here h tells Plain can = acked m q here h tells (resume program m (ask c.world q).response) refl
     from_acks m q here h tells (Got word) can =
@@ -204,11 +204,11 @@ module _ (program : MidProgram) (input : List ℕ) (limits : Limits) (sites : Ha
         let no_event : (x : Resumed) → resume program m (ask c.world q).response ≡ x → length (trail_next program (trail_side program m (length (checks_of q))) past.world Plain).events ≡ 0 = none m q stands h in
         absurd (omega (arith, can.1, no_event (resume program m (ask c.world q).response) refl))
       where
-        none : (m : Machine) (q : Request) → Stands program m → (h : wants program m ≡ Requests q) → (x : Resumed) → resume program m (ask c.world q).response ≡ x → length (trail_next program (trail_side program m (length (checks_of q))) past.world Plain).events ≡ 0
+        none : (m : Standing) (q : Request) → Stands program m → (h : wants program m ≡ Requests q) → (x : Resumed) → resume program m (ask c.world q).response ≡ x → length (trail_next program (trail_side program m (length (checks_of q))) past.world Plain).events ≡ 0
         none m q stands h (Back next) back = ap (λ g. length g.events) (trail_acks_back program m stands q h past.world _ next back)
         none m q stands h (Over end) over = ap (λ g. length g.events) (trail_acks_over program m stands q h past.world _ end over)
 
-    from_ending : (m : Machine) (q : Request) (r : Response) (end : SourceEnd) → c.place ≡ Owed m r → wants program m ≡ Requests q → resume program m r ≡ Over end →
+    from_ending : (m : Standing) (q : Request) (r : Response) (end : SourceEnd) → c.place ≡ Owed m r → wants program m ≡ Requests q → resume program m r ≡ Over end →
         Tells past (Went (trail_side program m (suc (length (checks_of q))))) c.words c.echoes →
         (meet : Meet) → CanMeet Trail program (trail_side program m (suc (length (checks_of q)))) past.world meet → TrailGoes (after meet)
     from_ending m q r end owed h over tells Plain can =

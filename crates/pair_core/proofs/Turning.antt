@@ -6,7 +6,7 @@ use Rattle.srmt_base.specs.declared.event.Event.{Event}
 use Rattle.srmt_base.specs.declared.side.Side.{Side}
 use Rattle.srmt_base.specs.declared.side.Side.TheVariants.{Lead, Trail}
 use Rattle.srmt_outside.specs.Count.{next_count}
-use Rattle.mid_code.specs.declared.program.MidProgram.{MidProgram}
+use Rattle.mid_code.specs.Classes.{SharedProgram}
 use Rattle.world.specs.World.{WorldState}
 use Rattle.machine.specs.declared.link_call.Taken.{Taken}
 use Rattle.machine.specs.declared.link_call.Taken.TheVariants.{Word, NotYet as NoWordYet, Closed as NoMore}
@@ -15,11 +15,13 @@ use Rattle.machine.specs.declared.one_step.OneStep.{OneStep}
 use Rattle.machine.specs.declared.stepped.Stepped.{Stepped}
 use Rattle.machine.specs.declared.stepped.Stepped.TheVariants.{NotYet}
 use Rattle.machine.specs.Origin.{Given}
-use Rattle.machine.specs.OneStep.{made_of, sent_of, taken_of, gone_of, asks_of, last_of}
+use Rattle.machine.specs.OneStep.{made_of, sent_of, shown_of}
+use Rattle.machine.specs.Link.{Shown, kept}
 use Rattle.machine.specs.Side.{SideState, Meet, Plain, Got, Closed, Failed, Outcome, Went, StepGives}
 use Rattle.machine.specs.Steps.{side_op, takes_at, may_send_at, step_room}
 use Rattle.machine.specs.Meets.{next_of, MeetsBy}
-use Rattle.machine.specs.Tried.{Shown, shown, question, Asks, Sends, Makes, Waits, Tries}
+use Rattle.machine.specs.Tried.{question, Asks, Makes, Waits, Tries}
+use Rattle.machine.specs.Upset.{no_upsets}
 use Rattle.pair_core.specs.Duo.{DuoState, is_over, view_of, Finds, Waits as FindsNone, Meets, finds_word, failed_by, meet_by, finds_room, finds_by, finds, put_on, stepped_of, Turned, made, turn_found, turn_at, turn_of}
 use Rattle.pair_core.specs.Turns.{offered, room_left, left_by}
 
@@ -36,8 +38,7 @@ none_counted row zero long none = refl
 none_counted [] (suc n) long none = absurd (cc)
 none_counted (x ∷ xs) (suc n) long none = absurd (cc)
 
-pub link_facts : (link : OneStep) (over : Bool) (coming : List ℕ) (room : ℕ) (going : List ℕ) → made_of link ≡ Given (offered over coming) (room_left over room going) false →
-    LinkFacts over coming room going (shown (sent_of link) (taken_of link) (gone_of link) (asks_of link) (last_of link))
+pub link_facts : (link : OneStep) (over : Bool) (coming : List ℕ) (room : ℕ) (going : List ℕ) → made_of link ≡ Given (offered over coming) (room_left over room going) false → LinkFacts over coming room going (shown_of link)
 link_facts link over coming room going made =
     let give : link.give ≡ offered over coming = cc in
     let began : link.began ≡ room_left over room going = cc in
@@ -117,17 +118,8 @@ found_by false false at over coming room going count (Failed written) before aft
     (Some written, ap (λ b. Meets (failed_by b written) coming) (lt-ltb written count can.1) ∙ ap (λ c. Meets (Failed written) (left_by c coming)) (sym (asks.0 ∙ quiet)))
 
 -- where the other side is not gone, all words are sent
-sends_all : (before words after : List ℕ) → Sends false before words after → after ≡ before ++ words
-sends_all before [] after sent = sent ∙ sym (append-nil before)
-sends_all before (w ∷ ws) after sent =
-    elim sent as (λ _. after ≡ before ++ w ∷ ws) [
-      | inl kept ↦ sends_all (before ++ w ∷ []) ws after kept ∙ append_assoc before (w ∷ []) ws
-      | inr dropped ↦ absurd (let e = dropped.0 in cc)
-    ]
-
-all_sent : (gone : Bool) (before words after : List ℕ) → gone ≡ false → before ≡ [] → Sends gone before words after → words ≡ after
-all_sent gone before words after here none sent =
-    sym (sends_all [] words after (subst (λ b. Sends false b words after) none (subst (λ g. Sends g before words after) here sent)))
+all_sent : (gone : Bool) (before words after : List ℕ) → gone ≡ false → before ≡ [] → after ≡ kept gone before words → words ≡ after
+all_sent gone before words after here none sent = sym (sent ∙ ap (λ g. kept g before words) here ∙ ap (λ b. b ++ words) none)
 
 -- the state after a step that was made, by its parts
 abbrev pub after_by : Side → Outcome → WorldState → List ℕ → List ℕ → DuoState → DuoState
@@ -141,6 +133,7 @@ after_by Lead outcome w sent left duo = record {
   trail_steps = duo.trail_steps;
   words_sent = duo.words_sent + length sent;
   acks_sent = duo.acks_sent;
+  applied = duo.applied;
 }
 after_by Trail outcome w sent left duo = record {
   lead = duo.lead;
@@ -152,6 +145,7 @@ after_by Trail outcome w sent left duo = record {
   trail_steps = duo.trail_steps + 1;
   words_sent = duo.words_sent;
   acks_sent = duo.acks_sent + length sent;
+  applied = duo.applied;
 }
 
 made_by : (side : Side) (gives : StepGives) (outcome : Outcome) (w : WorldState) (sent left : List ℕ) (duo : DuoState) → gives.outcome ≡ outcome → gives.world ≡ w → gives.sent ≡ sent → made side gives left duo ≡ after_by side outcome w sent left duo
@@ -166,21 +160,21 @@ turned_by d es a = record { state = d; events = es; stepped = a }
 turned_same : (d e : DuoState) (es fs : List Event) (a b : Stepped) → d ≡ e → es ≡ fs → a ≡ b → turned_by d es a ≡ turned_by e fs b
 turned_same d e es fs a b p q r = ap (λ x. turned_by x es a) p ∙ ap (λ x. turned_by e x a) q ∙ ap (λ x. turned_by e fs x) r
 
-module _ (side : Side) (program : MidProgram) (duo : DuoState) (s : SideState) (stands : (view_of side duo).at ≡ Went s) (before after : Shown) (facts : LinkFacts (view_of side duo).peer_over (view_of side duo).coming (view_of side duo).room (view_of side duo).going after) (none : before.sent ≡ []) (fresh : before.asks ≡ 0) (quiet : before.last ≡ Nothing) where
-  turned : (fails : Option ℕ) (f : Finds) → finds side program s duo.world fails (view_of side duo) ≡ f → turn_of program side fails duo ≡ turn_found f side program s duo
+module _ (side : Side) (program : SharedProgram) (duo : DuoState) (s : SideState) (stands : (view_of side duo).at ≡ Went s) (before after : Shown) (facts : LinkFacts (view_of side duo).peer_over (view_of side duo).coming (view_of side duo).room (view_of side duo).going after) (none : before.sent ≡ []) (fresh : before.asks ≡ 0) (quiet : before.last ≡ Nothing) where
+  turned : (fails : Option ℕ) (f : Finds) → finds side program s duo.world fails (view_of side duo) ≡ f → turn_of program no_upsets side fails duo ≡ turn_found f side program s duo
   turned fails f e = ap (λ o. turn_at o side program fails duo) stands ∙ ap (λ g. turn_found g side program s duo) e
 
-  pub waits_turn : (s' : SideState) (w' : WorldState) (events : List Event) → Tries side program s duo.world NotYet s' w' events before after → turn_of program side None duo ≡ record { state = duo; events = []; stepped = NotYet }
+  pub waits_turn : (s' : SideState) (w' : WorldState) (events : List Event) → Tries side program s duo.world NotYet s' w' events before after → turn_of program no_upsets side None duo ≡ record { state = duo; events = []; stepped = NotYet }
   waits_turn s' w' events tries =
       turned None FindsNone (waits_found _ _ (view_of side duo).at (view_of side duo).peer_over (view_of side duo).coming (view_of side duo).room (view_of side duo).going Plain s s' duo.world w' events before after facts none fresh tries)
 
   pub made_turn : (fits : length (view_of side duo).going ≤ (view_of side duo).room) (outcome : Outcome) (w' : WorldState) (events : List Event) →
       Makes (takes_at (side_op side program s)) (may_send_at (side_op side program s)) (next_of side program s duo.world) outcome w' events before after →
-      (fails : Option ℕ) × (turn_of program side fails duo ≡ record { state = after_by side outcome w' after.sent (left_by after.last (view_of side duo).coming) duo; events = events; stepped = stepped_of outcome })
+      (fails : Option ℕ) × (turn_of program no_upsets side fails duo ≡ record { state = after_by side outcome w' after.sent (left_by after.last (view_of side duo).coming) duo; events = events; stepped = stepped_of outcome })
   made_turn fits outcome w' events makes =
       let gives = next_of side program s duo.world makes.meet in
       let found = found_by (takes_at (side_op side program s)) (may_send_at (side_op side program s)) (view_of side duo).at (view_of side duo).peer_over (view_of side duo).coming (view_of side duo).room (view_of side duo).going (length (next_of side program s duo.world Plain).events) makes.meet before after facts fits fresh quiet makes.can_meet makes.asks in
-      let sent : gives.sent ≡ after.sent = all_sent after.gone before.sent gives.sent after.sent facts.here none makes.words in
+      let sent : gives.sent ≡ after.sent = all_sent after.gone before.sent gives.sent after.sent facts.here none makes.sent in
       let state = made_by side gives outcome w' after.sent (left_by after.last (view_of side duo).coming) duo makes.outcome_is makes.world_is sent in (
         found.0,
         turned found.0 (Meets makes.meet (left_by after.last (view_of side duo).coming)) found.1

@@ -1,30 +1,30 @@
 -- The answer of a run of both sides.
-use Rattle.std.specs.Prelude.{◌≡◌, ℕ, ◌⊎◌, false, List, length}
+use Rattle.std.specs.Prelude.{◌≡◌, ℕ, ◌⊎◌, ◌||◌, List, length}
 use Rattle.srmt_base.specs.declared.event.Event.{Event}
 use Rattle.srmt_base.specs.declared.limits.Limits.{Limits}
 use Rattle.srmt_base.specs.declared.trap.SourceEnd.{SourceEnd}
 use Rattle.srmt_base.specs.declared.trap.SourceEnd.TheVariants.{Exit as SourceExit, Trap as SourceTrap}
 use Rattle.srmt_base.specs.Trap.{is_budget}
-use Rattle.mid_code.specs.declared.program.MidProgram.{MidProgram}
+use Rattle.mid_code.specs.Classes.{SharedProgram}
 use Rattle.world.specs.Ideal.{IsIdeal}
 use Rattle.verdicts.specs.declared.thread_end.ThreadEnd.{ThreadEnd}
 use Rattle.verdicts.specs.declared.verdict.Ran.{Ran}
 use Rattle.verdicts.specs.declared.verdict.Verdict.{Verdict}
 use Rattle.verdicts.specs.declared.verdict.Verdict.TheVariants.{Exit as ExitVerdict, WriteFault as FaultVerdict}
 use Rattle.verdicts.specs.Verdict.{verdict_of_ends, stopped_by}
+use Rattle.machine.specs.Upset.{Upsets}
 use Rattle.pair_core.specs.Fit.{EndedFit}
 use Rattle.pair_core.specs.Laws.{IdealEvents}
 use Rattle.pair_core.specs.Duo.{DuoState}
 
 -- some ended fit has these counts, these events, this verdict and so many words
-pub record IsAnswer (program : MidProgram) (input : List ℕ) (limits : Limits) (events : List Event) (ran : Ran) : Type 0 where
-  pub ended : EndedFit program input limits ran.lead_steps ran.trail_steps
+pub record IsAnswer (program : SharedProgram) (input : List ℕ) (limits : Limits) (upsets : Upsets) (events : List Event) (ran : Ran) : Type 0 where
+  pub ended : EndedFit program input limits upsets ran.lead_steps ran.trail_steps
   pub written : ended.fit.lead.events ≡ events
   pub verdict : ran.verdict ≡ verdict_of_ends ended.lead_end ended.trail_end
   pub words : ran.words ≡ length ended.fit.lead.sent
   pub acks : ran.acks ≡ length ended.fit.trail.sent
-  -- no register is replaced in a run yet
-  pub applied : ran.applied ≡ false
+  pub applied : ran.applied ≡ (ended.fit.lead.applied || ended.fit.trail.applied)
 
 -- the verdict on two sides that have both ended as the source does
 abbrev pub verdict_as : SourceEnd → Verdict
@@ -32,9 +32,10 @@ verdict_as (SourceExit status) = ExitVerdict status
 verdict_as (SourceTrap trap line) = stopped_by (is_budget trap) trap line
 
 -- the events come first in the ideal run, and where none failed they are all of them, with its end
-pub record FollowsIdeal (program : MidProgram) (input : List ℕ) (limits : Limits) (events : List Event) (ran : Ran) : Type 0 where
+pub record FollowsIdeal (program : SharedProgram) (input : List ℕ) (limits : Limits) (events : List Event) (ran : Ran) : Type 0 where
   pub first : IdealEvents program input limits events
-  pub whole : (ran.verdict ≡ FaultVerdict) ⊎ ((end : SourceEnd) × (words : List ℕ) × IsIdeal program input limits words events end × (ran.verdict ≡ verdict_as end))
+  pub whole : (ran.verdict ≡ FaultVerdict)
+      ⊎ ((end : SourceEnd) × (words : List ℕ) × IsIdeal program input limits words events end × (ran.verdict ≡ verdict_as end))
 
 -- what a state in which both sides have ended so is answered as
 abbrev pub ran_of : ThreadEnd → ThreadEnd → DuoState → Ran
@@ -44,5 +45,5 @@ ran_of lead trail duo = record {
   trail_steps = duo.trail_steps;
   words = duo.words_sent;
   acks = duo.acks_sent;
-  applied = false;
+  applied = duo.applied;
 }

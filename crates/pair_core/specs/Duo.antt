@@ -4,13 +4,14 @@ use Rattle.srmt_base.specs.declared.event.Event.{Event}
 use Rattle.srmt_base.specs.declared.limits.Limits.{Limits}
 use Rattle.srmt_base.specs.declared.side.Side.{Side}
 use Rattle.srmt_base.specs.declared.side.Side.TheVariants.{Lead, Trail}
-use Rattle.mid_code.specs.declared.program.MidProgram.{MidProgram}
+use Rattle.mid_code.specs.Classes.{SharedProgram}
 use Rattle.world.specs.World.{WorldState, opened}
 use Rattle.machine.specs.declared.stepped.Stepped.{Stepped}
 use Rattle.machine.specs.declared.stepped.Stepped.TheVariants.{Went as Made, NotYet, Ended as MadeLast}
 use Rattle.machine.specs.Side.{SideState, Meet, Plain, Got, Closed, Failed, Outcome, Went, Ended, StepGives, opening}
 use Rattle.machine.specs.Steps.{side_op, takes_at, may_send_at, step_room}
 use Rattle.machine.specs.Meets.{next_of}
+use Rattle.machine.specs.Upset.{Upset, Upsets, upsets_of, struck_by, applied_by}
 
 pub record DuoState : Type 0 where
   pub lead : Outcome
@@ -24,18 +25,21 @@ pub record DuoState : Type 0 where
   pub trail_steps : ℕ
   pub words_sent : ℕ
   pub acks_sent : ℕ
+  -- whether an upset was applied
+  pub applied : Bool
 
-abbrev pub opening_duo : MidProgram → List ℕ → Limits → DuoState
+abbrev pub opening_duo : SharedProgram → List ℕ → Limits → DuoState
 opening_duo program input limits = record {
   lead = Went (opening program limits);
   trail = Went (opening program limits);
-  world = opened program input limits;
+  world = opened program.program input limits;
   words = [];
   acks = [];
   lead_steps = 0;
   trail_steps = 0;
   words_sent = 0;
   acks_sent = 0;
+  applied = false;
 }
 
 -- how many words, and how many acknowledgements, can be on the way
@@ -95,7 +99,7 @@ finds_by true sending view meet = finds_word view.peer_over view.coming
 finds_by false sending view meet = finds_room (is_crowded sending view) meet view.coming
 
 -- what the next step of a side finds
-abbrev pub finds : Side → MidProgram → SideState → WorldState → Option ℕ → View → Finds
+abbrev pub finds : Side → SharedProgram → SideState → WorldState → Option ℕ → View → Finds
 finds side program s w fails view =
     finds_by (takes_at (side_op side program s)) (may_send_at (side_op side program s)) view (meet_by fails (length (next_of side program s w Plain).events))
 
@@ -126,6 +130,7 @@ made Lead gives left duo = record {
   trail_steps = duo.trail_steps;
   words_sent = duo.words_sent + length gives.sent;
   acks_sent = duo.acks_sent;
+  applied = duo.applied;
 }
 made Trail gives left duo = record {
   lead = duo.lead;
@@ -137,23 +142,40 @@ made Trail gives left duo = record {
   trail_steps = duo.trail_steps + 1;
   words_sent = duo.words_sent;
   acks_sent = duo.acks_sent + length gives.sent;
+  applied = duo.applied;
 }
 
 -- a step that waits changes nothing
-abbrev pub turn_found : Finds → Side → MidProgram → SideState → DuoState → Turned
+abbrev pub turn_found : Finds → Side → SharedProgram → SideState → DuoState → Turned
 turn_found Waits side program s duo = record { state = duo; events = []; stepped = NotYet }
 turn_found (Meets meet left) side program s duo =
     let gives : StepGives = next_of side program s duo.world meet in
     record { state = made side gives left duo; events = gives.events; stepped = stepped_of gives.outcome }
 
 -- a side that has ended answers its end again
-abbrev pub turn_at : Outcome → Side → MidProgram → Option ℕ → DuoState → Turned
+abbrev pub turn_at : Outcome → Side → SharedProgram → Option ℕ → DuoState → Turned
 turn_at (Went s) side program fails duo = turn_found (finds side program s duo.world fails (view_of side duo)) side program s duo
 turn_at (Ended end) side program fails duo = record { state = duo; events = []; stepped = MadeLast end }
 
+-- the next step of a side is tried: the upsets of that step strike before, once or each time that it
+-- is tried again
+abbrev pub ready_duo : List Upset → Side → DuoState → DuoState
+ready_duo [] side duo = duo
+ready_duo (upset ∷ upsets) Lead duo = record duo {
+  lead = struck_by (upset ∷ upsets) (duo.lead_steps + 1) duo.lead;
+  applied = applied_by (upset ∷ upsets) (duo.lead_steps + 1) duo.lead duo.applied;
+}
+ready_duo (upset ∷ upsets) Trail duo = record duo {
+  trail = struck_by (upset ∷ upsets) (duo.trail_steps + 1) duo.trail;
+  applied = applied_by (upset ∷ upsets) (duo.trail_steps + 1) duo.trail duo.applied;
+}
+
+abbrev pub turn_from : SharedProgram → Side → Option ℕ → DuoState → Turned
+turn_from program side fails duo = turn_at (view_of side duo).at side program fails duo
+
 -- one event of this side; the outlet fails after so many of its events, or not at all
-abbrev pub turn_of : MidProgram → Side → Option ℕ → DuoState → Turned
-turn_of program side fails duo = turn_at (view_of side duo).at side program fails duo
+abbrev pub turn_of : SharedProgram → Upsets → Side → Option ℕ → DuoState → Turned
+turn_of program upsets side fails duo = turn_from program side fails (ready_duo (upsets_of side upsets) side duo)
 
 -- an entry of a schedule
 pub record Entry : Type 0 where
@@ -165,16 +187,17 @@ pub record Scheduled : Type 0 where
   pub duo : DuoState
   pub events : List Event
 
-abbrev pub run_on : MidProgram → Scheduled → List Entry → Scheduled
-run_on program sofar [] = sofar
-run_on program sofar (entry ∷ entries) =
-    let turned : Turned = turn_of program entry.side entry.fails sofar.duo in
-    run_on program (record { duo = turned.state; events = sofar.events ++ turned.events }) entries
+abbrev pub run_on : SharedProgram → Upsets → Scheduled → List Entry → Scheduled
+run_on program upsets sofar [] = sofar
+run_on program upsets sofar (entry ∷ entries) =
+    let turned : Turned = turn_of program upsets entry.side entry.fails sofar.duo in
+    run_on program upsets (record { duo = turned.state; events = sofar.events ++ turned.events }) entries
 
 -- the run of a schedule from the opening
-abbrev pub scheduled : MidProgram → List ℕ → Limits → List Entry → Scheduled
-scheduled program input limits entries = run_on program (record { duo = opening_duo program input limits; events = [] }) entries
+abbrev pub scheduled : SharedProgram → List ℕ → Limits → Upsets → List Entry → Scheduled
+scheduled program input limits upsets entries = run_on program upsets (record { duo = opening_duo program input limits; events = [] }) entries
 
 -- some schedule leads here, with these events in all
-abbrev pub Reached : MidProgram → List ℕ → Limits → DuoState → List Event → Type 0
-Reached program input limits duo events = (entries : List Entry) × (scheduled program input limits entries ≡ record { duo = duo; events = events })
+abbrev pub Reached : SharedProgram → List ℕ → Limits → Upsets → DuoState → List Event → Type 0
+Reached program input limits upsets duo events =
+    (entries : List Entry) × (scheduled program input limits upsets entries ≡ record { duo = duo; events = events })

@@ -1,23 +1,41 @@
 -- The history of one side: what its counted steps have come to, whatever the other side did.
-use Rattle.std.specs.Prelude.{◌≡◌, ℕ, zero, suc, List, [], ◌∷◌, ◌++◌}
+use Rattle.std.specs.Prelude.{◌≡◌, ℕ, zero, suc, Bool, false, List, [], ◌∷◌, ◌++◌}
 use Rattle.srmt_base.specs.declared.event.Event.{Event}
 use Rattle.srmt_base.specs.declared.limits.Limits.{Limits}
 use Rattle.srmt_base.specs.declared.side.Side.{Side}
-use Rattle.mid_code.specs.declared.program.MidProgram.{MidProgram}
+use Rattle.mid_code.specs.Classes.{SharedProgram}
 use Rattle.world.specs.World.{WorldState, opened}
 use Rattle.machine.specs.Side.{SideState, Meet, Plain, Got, Closed, Failed, Outcome, Went, StepGives, opening}
 use Rattle.machine.specs.Meets.{next_of, CanMeet}
+use Rattle.machine.specs.Upset.{Upset, Upsets, upsets_of, struck_by, applied_by}
 
--- where a side is, the world as its steps left it, and all that they took, sent and wrote
+-- where a side is, the world as its steps left it, all that they took, sent and wrote, and whether
+-- an upset was applied
 pub record Past : Type 0 where
   pub at : Outcome
   pub world : WorldState
   pub took : List ℕ
   pub sent : List ℕ
   pub events : List Event
+  pub applied : Bool
 
-abbrev pub opening_past : MidProgram → List ℕ → Limits → Past
-opening_past program input limits = record { at = Went (opening program limits); world = opened program input limits; took = []; sent = []; events = [] }
+abbrev pub opening_past : SharedProgram → List ℕ → Limits → Past
+opening_past program input limits = record {
+  at = Went (opening program limits);
+  world = opened program.program input limits;
+  took = [];
+  sent = [];
+  events = [];
+  applied = false;
+}
+
+-- just before a step: the upsets of that step have struck
+abbrev pub ready : List Upset → ℕ → Past → Past
+ready [] step past = past
+ready (upset ∷ upsets) step past = record past {
+  at = struck_by (upset ∷ upsets) step past.at;
+  applied = applied_by (upset ∷ upsets) step past.at past.applied;
+}
 
 -- the word that a step takes
 abbrev pub word_met : Meet → List ℕ
@@ -34,14 +52,21 @@ grown past meet gives = record {
   took = past.took ++ word_met meet;
   sent = past.sent ++ gives.sent;
   events = past.events ++ gives.events;
+  applied = past.applied;
 }
 
--- after so many counted steps a side can have come to this; a step that waits is not counted, the
--- step on which the side ends is
-abbrev pub HasPast : MidProgram → List ℕ → Limits → Side → ℕ → Past → Type 0
-HasPast program input limits side zero past = past ≡ opening_past program input limits
-HasPast program input limits side (suc steps) past =
-    (before : Past) × HasPast program input limits side steps before ×
-    (s : SideState) × (before.at ≡ Went s) ×
-    (meet : Meet) × CanMeet side program s before.world meet ×
-    (past ≡ grown before meet (next_of side program s before.world meet))
+-- a counted step leads from the one to the other: a step that waits is not counted, the step on
+-- which the side ends is
+pub record IsStep (program : SharedProgram) (side : Side) (before past : Past) : Type 0 where
+  pub stood : SideState
+  pub goes : before.at ≡ Went stood
+  pub meet : Meet
+  pub can_meet : CanMeet side program stood before.world meet
+  pub grows : past ≡ grown before meet (next_of side program stood before.world meet)
+
+-- after so many counted steps, and with these upsets, a side can have come to this
+abbrev pub HasPast : SharedProgram → List ℕ → Limits → Upsets → Side → ℕ → Past → Type 0
+HasPast program input limits upsets side zero past = past ≡ opening_past program input limits
+HasPast program input limits upsets side (suc steps) past =
+    (before : Past) × HasPast program input limits upsets side steps before ×
+    IsStep program side (ready (upsets_of side upsets) (suc steps) before) past

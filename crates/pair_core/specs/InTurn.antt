@@ -3,7 +3,7 @@ use Rattle.std.specs.Prelude.{◌≡◌, ℕ, List}
 use Rattle.srmt_base.specs.declared.limits.Limits.{Limits}
 use Rattle.srmt_base.specs.declared.side.Side.{Side}
 use Rattle.srmt_base.specs.declared.side.Side.TheVariants.{Lead, Trail}
-use Rattle.mid_code.specs.declared.program.MidProgram.{MidProgram}
+use Rattle.mid_code.specs.Classes.{SharedProgram}
 use Rattle.verdicts.specs.declared.thread_end.ThreadEnd.{ThreadEnd}
 use Rattle.machine.specs.declared.stepped.Stepped.{Stepped}
 use Rattle.machine.specs.declared.stepped.Stepped.TheVariants.{Went, NotYet, Ended as MadeLast}
@@ -31,5 +31,5 @@ abbrev pub IsRan : DuoState → Ran → Type 0
 IsRan duo ran = (lead : ThreadEnd) × (trail : ThreadEnd) × (duo.lead ≡ Ended lead) × (duo.trail ≡ Ended trail) × (ran ≡ ran_of lead trail duo)
 
 -- nothing was done yet
-abbrev pub IsOpening : MidProgram → DuoState → Type 0
+abbrev pub IsOpening : SharedProgram → DuoState → Type 0
 IsOpening program duo = (input : List ℕ) × (limits : Limits) × (duo ≡ opening_duo program input limits)

@@ -1,19 +1,22 @@
 -- What holds after every schedule.
-use Rattle.std.specs.Prelude.{◌≡◌, ℕ, ◌⊎◌, ◌≢◌, List, [], ◌∷◌, ◌++◌, length, None}
+use Rattle.std.specs.Prelude.{◌≡◌, ℕ, ◌+◌, ◌⊎◌, ◌≢◌, ◌||◌, List, [], ◌∷◌, ◌++◌, length, None}
 use Rattle.srmt_base.specs.declared.event.Event.{Event}
 use Rattle.srmt_base.specs.declared.limits.Limits.{Limits}
 use Rattle.srmt_base.specs.declared.side.Side.{Side}
 use Rattle.srmt_base.specs.declared.side.Side.TheVariants.{Lead, Trail}
 use Rattle.srmt_base.specs.declared.trap.SourceEnd.{SourceEnd}
 use Rattle.srmt_base.specs.declared.trap.SourceEnd.TheVariants.{Exit as SourceExit, Trap as SourceTrap}
-use Rattle.mid_code.specs.declared.program.MidProgram.{MidProgram}
+use Rattle.mid_code.specs.Classes.{SharedProgram}
+use Rattle.mid_code.specs.Pairs.{HasSites}
 use Rattle.world.specs.Ideal.{ideal, IsIdeal}
 use Rattle.verdicts.specs.declared.thread_end.ThreadEnd.{ThreadEnd}
 use Rattle.verdicts.specs.declared.thread_end.ThreadEnd.TheVariants.{Exit, Trap, Mismatch, Echo, WriteFault}
 use Rattle.machine.specs.declared.stepped.Stepped.TheVariants.{NotYet}
 use Rattle.machine.specs.Side.{Outcome, Went, Ended}
+use Rattle.machine.specs.Upset.{Upset, Upsets, no_upsets, IsNone, upsets_of}
+use Rattle.pair_core.specs.History.{Past, ready}
 use Rattle.pair_core.specs.Fit.{IsPrefix, IsOver, Fit}
-use Rattle.pair_core.specs.Duo.{DuoState, view_of, turn_of, Entry}
+use Rattle.pair_core.specs.Duo.{DuoState, view_of, turn_of, Entry, Scheduled, scheduled}
 
 -- the end of a side that ends as the source does
 abbrev pub end_as : SourceEnd → ThreadEnd
@@ -31,49 +34,83 @@ IsClean (Went s) = Unit {0}
 IsClean (Ended end) = IsCleanEnd end
 
 -- the ideal run has come to a point at which it has written these words, or these events, first
-abbrev pub IdealWords : MidProgram → List ℕ → Limits → List ℕ → Type 0
+abbrev pub IdealWords : SharedProgram → List ℕ → Limits → List ℕ → Type 0
 IdealWords program input limits words = (steps : ℕ) × IsPrefix words (ideal program input limits steps).words
 
-abbrev pub IdealEvents : MidProgram → List ℕ → Limits → List Event → Type 0
+abbrev pub IdealEvents : SharedProgram → List ℕ → Limits → List Event → Type 0
 IdealEvents program input limits events = (steps : ℕ) × IsPrefix events (ideal program input limits steps).events
 
 -- both sides have ended as the ideal run does, and all its words and events are there
-pub record AsIdeal (program : MidProgram) (input : List ℕ) (limits : Limits) (lead trail : ThreadEnd) (words : List ℕ) (events : List Event) : Type 0 where
+pub record AsIdeal (program : SharedProgram) (input : List ℕ) (limits : Limits) (lead trail : ThreadEnd) (words : List ℕ) (events : List Event) : Type 0 where
   pub end : SourceEnd
   pub lead_end : lead ≡ end_as end
   pub trail_end : trail ≡ end_as end
   pub whole : IsIdeal program input limits words events end
 
 -- the side has not ended, and its next step is possible
-pub record CanGo (program : MidProgram) (side : Side) (duo : DuoState) : Type 0 where
+pub record CanGo (program : SharedProgram) (upsets : Upsets) (side : Side) (duo : DuoState) : Type 0 where
   pub goes_on : (end : ThreadEnd) → (view_of side duo).at ≢ Ended end
-  pub goes : (turn_of program side None duo).stepped ≢ NotYet
+  pub goes : (turn_of program upsets side None duo).stepped ≢ NotYet
 
-pub record Sound (program : MidProgram) (input : List ℕ) (limits : Limits) (duo : DuoState) (events : List Event) : Type 0 where
-  -- the state is a fit at its own two counts
-  pub fit : Fit program input limits duo.lead_steps duo.trail_steps
-  pub lead : duo.lead ≡ fit.lead.at
-  pub trail : duo.trail ≡ fit.trail.at
+-- a history as the core shows it: as it is, or just before its next step, for which the side may wait
+abbrev pub IsNow : List Upset → ℕ → Past → Past → Type 0
+IsNow upsets steps past now = (now ≡ past) ⊎ (now ≡ ready upsets (steps + 1) past)
+
+-- what was sent and not yet taken is on the way, unless the other side has ended and it was dropped
+abbrev pub IsOnWay : Outcome → List ℕ → List ℕ → List ℕ → Type 0
+IsOnWay (Went s) sent took way = sent ≡ took ++ way
+IsOnWay (Ended end) sent took way = IsPrefix (took ++ way) sent
+
+-- the state is a fit at its own two counts
+pub record IsFitState (program : SharedProgram) (input : List ℕ) (limits : Limits) (upsets : Upsets) (duo : DuoState) (events : List Event) : Type 0 where
+  pub fit : Fit program input limits upsets duo.lead_steps duo.trail_steps
+  pub lead : Past
+  pub trail : Past
+  pub lead_now : IsNow (upsets_of Lead upsets) duo.lead_steps fit.lead lead
+  pub trail_now : IsNow (upsets_of Trail upsets) duo.trail_steps fit.trail trail
+  pub lead_at : duo.lead ≡ lead.at
+  pub trail_at : duo.trail ≡ trail.at
   pub world : duo.world ≡ fit.lead.world
+  pub applied : duo.applied ≡ (lead.applied || trail.applied)
   pub written : events ≡ fit.lead.events
   pub words_sent : duo.words_sent ≡ length fit.lead.sent
   pub acks_sent : duo.acks_sent ≡ length fit.trail.sent
-  -- what is on the way was sent and not yet taken
-  pub words : fit.lead.sent ≡ fit.trail.took ++ duo.words
-  pub acks : fit.trail.sent ≡ fit.lead.took ++ duo.acks
-  -- what was sent and what was written comes first in the ideal run
-  pub ideal_words : IdealWords program input limits fit.lead.sent
+  pub words : IsOnWay duo.trail fit.lead.sent fit.trail.took duo.words
+  pub acks : IsOnWay duo.lead fit.trail.sent fit.lead.took duo.acks
+
+-- what was sent and what was written comes first in the ideal run, and neither side has found a
+-- difference; a word that was sent is never dropped
+pub record FollowsIdealRun (program : SharedProgram) (input : List ℕ) (limits : Limits) (duo : DuoState) (lead trail : Past)
+    (events : List Event) : Type 0 where
+  pub ideal_words : IdealWords program input limits lead.sent
   pub ideal_events : IdealEvents program input limits events
-  -- no side has found a difference
   pub lead_clean : IsClean duo.lead
   pub trail_clean : IsClean duo.trail
-  -- where both have ended, an event has failed, or the ends are equal and the ideal run's
-  pub ends : (lead_end trail_end : ThreadEnd) → duo.lead ≡ Ended lead_end → duo.trail ≡ Ended trail_end →
-      (lead_end ≡ WriteFault) ⊎ AsIdeal program input limits lead_end trail_end fit.lead.sent events
-  -- the core never stands still
-  pub goes : CanGo program Lead duo ⊎ CanGo program Trail duo ⊎ (IsOver duo.lead × IsOver duo.trail)
+  pub words : lead.sent ≡ trail.took ++ duo.words
+  pub acks : trail.sent ≡ lead.took ++ duo.acks
+
+-- where both sides have ended and there was no upset, an event has failed, or the ends are equal and
+-- the ideal run's; and the core never stands still
+pub record EndsWell (program : SharedProgram) (input : List ℕ) (limits : Limits) (upsets : Upsets) (duo : DuoState) (words : List ℕ)
+    (events : List Event) : Type 0 where
+  pub ends : IsNone upsets → (lead trail : ThreadEnd) → duo.lead ≡ Ended lead → duo.trail ≡ Ended trail →
+      (lead ≡ WriteFault) ⊎ AsIdeal program input limits lead trail words events
+  pub goes : CanGo program upsets Lead duo ⊎ CanGo program upsets Trail duo ⊎ (IsOver duo.lead × IsOver duo.trail)
+
+-- what holds of a state that a schedule leads to: it is a fit, it follows the ideal run where there is
+-- no upset, and its ends are right
+pub record Sound (program : SharedProgram) (input : List ℕ) (limits : Limits) (upsets : Upsets) (duo : DuoState) (events : List Event) : Type 0 where
+  pub fits : IsFitState program input limits upsets duo events
+  pub follows : IsNone upsets → FollowsIdealRun program input limits duo fits.fit.lead fits.fit.trail events
+  pub ends_well : EndsWell program input limits upsets duo fits.fit.lead.sent events
 
 -- the outlet fails in no event of the schedule
 abbrev pub NoneFails : List Entry → Type 0
 NoneFails [] = Unit {0}
 NoneFails (entry ∷ entries) = (entry.fails ≡ None) × NoneFails entries
+
+-- what holds of whatever a schedule without upset leads to
+abbrev pub OverSchedules : (SharedProgram → List ℕ → Limits → Scheduled → Type 0) → Type 0
+OverSchedules Holds =
+    (program : SharedProgram) (input : List ℕ) (limits : Limits) (entries : List Entry) → HasSites program →
+    Holds program input limits (scheduled program input limits no_upsets entries)

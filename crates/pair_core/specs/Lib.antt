@@ -1,8 +1,10 @@
 pub mod History
 pub mod Fit
+pub mod Window
 pub mod Duo
 pub mod Laws
 pub mod Answer
 pub mod Turns
+pub mod Faults
 pub mod View
 pub mod InTurn

@@ -3,8 +3,8 @@ use Rattle.std.specs.Prelude.{◌≡◌, ℕ, ◌+◌, ◌-◌, ◌^◌, ◌<◌
 use Rattle.srmt_base.specs.declared.event.Event.{Event}
 use Rattle.srmt_base.specs.declared.side.Side.{Side}
 use Rattle.srmt_base.specs.declared.side.Side.TheVariants.{Lead, Trail}
-use Rattle.mid_code.specs.declared.program.MidProgram.{MidProgram}
-use Rattle.world.specs.World.{WorldState}
+use Rattle.mid_code.specs.Classes.{SharedProgram}
+use Rattle.world.specs.World.{WorldState, is_live}
 use Rattle.machine.specs.declared.link_call.Taken.{Taken}
 use Rattle.machine.specs.declared.link_call.Taken.TheVariants.{Word, NotYet as NoWordYet, Closed}
 use Rattle.machine.specs.declared.link_call.LastCall.{LastCall}
@@ -14,6 +14,7 @@ use Rattle.machine.specs.declared.stepped.Stepped.{Stepped}
 use Rattle.machine.specs.declared.stepped.Stepped.TheVariants.{Went as Made, NotYet, Ended as MadeLast}
 use Rattle.machine.specs.Side.{SideState, Outcome, Went, Ended}
 use Rattle.machine.specs.Fits.{SideFits}
+use Rattle.machine.specs.Upset.{Upsets}
 use Rattle.pair_core.specs.Duo.{DuoState, turn_of}
 
 -- what is to be taken from a way whose other end has ended or not
@@ -51,20 +52,21 @@ has_waited NotYet = true
 has_waited (MadeLast end) = false
 
 -- one event of a side leads from the one state to the other
-abbrev pub Turns : MidProgram → Side → Option ℕ → DuoState → DuoState → Stepped → List Event → Type 0
-Turns program side fails before after stepped events = turn_of program side fails before ≡ record { state = after; events = events; stepped = stepped }
+abbrev pub Turns : SharedProgram → Upsets → Side → Option ℕ → DuoState → DuoState → Stepped → List Event → Type 0
+Turns program upsets side fails before after stepped events =
+    turn_of program upsets side fails before ≡ record { state = after; events = events; stepped = stepped }
 
 -- a side that has not ended stands within its version, and while the leading side goes on the world
 -- answers
-abbrev pub OutcomeFits : Side → MidProgram → Outcome → Type 0
+abbrev pub OutcomeFits : Side → SharedProgram → Outcome → Type 0
 OutcomeFits side program (Went s) = SideFits side program s
 OutcomeFits side program (Ended end) = Unit {0}
 
 abbrev pub LivesOn : Outcome → WorldState → Type 0
-LivesOn (Went s) w = IsTrue w.live
+LivesOn (Went s) w = IsTrue (is_live w)
 LivesOn (Ended end) w = Unit {0}
 
-pub record DuoFits (program : MidProgram) (duo : DuoState) : Type 0 where
+pub record DuoFits (program : SharedProgram) (duo : DuoState) : Type 0 where
   pub lead : OutcomeFits Lead program duo.lead
   pub trail : OutcomeFits Trail program duo.trail
   pub world : LivesOn duo.lead duo.world

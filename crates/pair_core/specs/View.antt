@@ -1,4 +1,5 @@
--- The fields of the core as its state.
+-- The fields of the core as its state. Nothing in the code replaces a value.
+use Rattle.std.specs.Prelude.{false}
 use Rattle.pair_core.specs.declared.duo.Duo.TheInside.{Inside}
 use Rattle.pair_core.specs.Duo.{DuoState}
 use Rattle.pair_core.specs.Turns.{outcome_by}
@@ -14,4 +15,5 @@ duo_of a = record {
   trail_steps = a.trail_steps;
   words_sent = a.words_sent;
   acks_sent = a.acks_sent;
+  applied = false;
 }

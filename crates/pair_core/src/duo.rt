@@ -1,12 +1,12 @@
 ghost use Rattle.std.specs.Prelude.{◌≡◌, ℕ, ◌+◌, ◌≤◌, ◌⊎◌, true, [], List, Option, length, IfOk};
 ghost use Rattle.srmt_base.specs.declared.event.Event.{Event};
 ghost use Rattle.srmt_base.specs.declared.side.Side.TheVariants.{Lead, Trail};
-ghost use Rattle.srmt_outside.specs.Count.{Rose};
+ghost use Rattle.mid_code.specs.Start.{FitLimits};
 ghost use Rattle.srmt_outside.specs.Told.{Appends};
 ghost use Rattle.machine.specs.OneStep.{last_of, sent_of};
-ghost use Rattle.machine.specs.Side.{Ended};
-ghost use Rattle.verdicts.specs.declared.thread_end.ThreadEnd.TheVariants.{WriteFault};
+ghost use Rattle.machine.specs.Upset.{no_upsets};
 ghost use Rattle.pair_core.specs.Duo.{opening_duo, put_on};
+ghost use Rattle.pair_core.specs.Faults.{CountsFaults};
 ghost use Rattle.pair_core.specs.Turns.{end_of_step, has_waited, left_by, CountsOn, DuoFits, IsCountable, Turns};
 
 use crate::way::Way;
@@ -91,6 +91,7 @@ impl Duo {
         input: Vec<u8>,
         limits: Limits,
     ) -> Result<Duo, AllocError>
+        requires { FitLimits pair.now.program limits }
         ensures opening { IfOk result (λ duo. duo ≡ opening_duo pair.now input.items limits) }
         ensures fits { IfOk result (DuoFits pair.now) }
     {
@@ -113,11 +114,12 @@ impl Duo {
     fn lead_turn<O: Outlet>(&mut self, pair: &Pair, outlet: &mut O) -> Stepped
         requires fits { DuoFits pair.now self.old }
         requires countable { IsCountable self.old }
-        ensures turn { (fails : Option ℕ) × (events : List Event) × Turns pair.now Lead fails self.old self.new result events × Appends (O.events outlet.old) (O.events outlet.new) events }
+        ensures turn { (fails : Option ℕ) × (events : List Event)
+            × Turns pair.now no_upsets Lead fails self.old self.new result events
+            × Appends (O.events outlet.old) (O.events outlet.new) events }
         ensures fits { DuoFits pair.now self.new }
         ensures counts { CountsOn self.old self.new }
-        ensures failed { self.new.lead ≡ Ended WriteFault → (self.old.lead ≡ Ended WriteFault) ⊎ Rose (O.faults outlet.old) (O.faults outlet.new) }
-        ensures never_falls { O.faults outlet.old ≤ O.faults outlet.new }
+        ensures faults { CountsFaults self.old.lead self.new.lead (O.faults outlet.old) (O.faults outlet.new) }
     {
         if let Some(end) = &self.lead_over {
             return Stepped::Ended(*end);
@@ -139,7 +141,7 @@ impl Duo {
     fn trail_turn(&mut self, pair: &Pair) -> Stepped
         requires fits { DuoFits pair.now self.old }
         requires countable { IsCountable self.old }
-        ensures turn { (fails : Option ℕ) × Turns pair.now Trail fails self.old self.new result [] }
+        ensures turn { (fails : Option ℕ) × Turns pair.now no_upsets Trail fails self.old self.new result [] }
         ensures fits { DuoFits pair.now self.new }
         ensures counts { CountsOn self.old self.new }
         ensures same { self.new.lead ≡ self.old.lead }
@@ -165,13 +167,14 @@ impl Duo {
     pub fn act<O: Outlet>(&mut self, pair: &Pair, outlet: &mut O, side: Side) -> Stepped
         requires fits { DuoFits pair.now self.old }
         requires countable { IsCountable self.old }
-        ensures turn { (fails : Option ℕ) × (events : List Event) × Turns pair.now side fails self.old self.new result events × Appends (O.events outlet.old) (O.events outlet.new) events }
+        ensures turn { (fails : Option ℕ) × (events : List Event)
+            × Turns pair.now no_upsets side fails self.old self.new result events
+            × Appends (O.events outlet.old) (O.events outlet.new) events }
         ensures fits { DuoFits pair.now self.new }
         ensures counts { CountsOn self.old self.new }
 
-        // The leading side ends by an event that failed only where the outlet says so.
-        ensures failed { self.new.lead ≡ Ended WriteFault → (self.old.lead ≡ Ended WriteFault) ⊎ Rose (O.faults outlet.old) (O.faults outlet.new) }
-        ensures never_falls { O.faults outlet.old ≤ O.faults outlet.new }
+        // The leading side ends by an event that failed exactly where the outlet has counted a fault.
+        ensures faults { CountsFaults self.old.lead self.new.lead (O.faults outlet.old) (O.faults outlet.new) }
     {
         match side {
             Side::Lead => {

@@ -6,12 +6,13 @@ use Rattle.srmt_base.specs.Word.{word_of, kind_part, site_part, value_part}
 use Rattle.word_stream.specs.declared.request.Request.{Request}
 use Rattle.word_stream.specs.declared.request.Response.{Response}
 use Rattle.word_stream.specs.declared.request.Response.TheVariants.{Done}
-use Rattle.word_stream.specs.declared.table.RequestKind.{RequestKind}
+use Rattle.srmt_base.specs.declared.request_kind.RequestKind.{RequestKind}
+use Rattle.srmt_base.specs.declared.word.Site.{Site}
 use Rattle.word_stream.specs.declared.table.SiteRow.{SiteRow}
 use Rattle.word_stream.specs.declared.table.SiteTable.{SiteTable}
 use Rattle.word_stream.specs.Exchange.{request_site}
-use Rattle.word_stream.specs.Reading.{row_at, kind_of, Begins}
-use Rattle.word_stream.proofs.Spelled.{Spells, spells_one, request_of, request_of-spelled, done_alone, exchange-one, small-one}
+use Rattle.word_stream.specs.Reading.{row_at, kind_of, request_of, Begins}
+use Rattle.word_stream.proofs.Spelled.{Spells, spells_one, request_of-spelled, done_alone, exchange-one, small-one}
 
 take_one : {X : Type 0} (xs : List X) (x : X) → slice_get xs 0 ≡ Some x → take 1 xs ≡ x ∷ []
 take_one [] x at = absurd (cc)
@@ -54,7 +55,7 @@ pub record Told (table : SiteTable) (words : List ℕ) (q : Request) (r : Respon
   pub kind : row.request ≡ kind_of q
   pub site_small : request_site q < 2 ^ 16
   pub value_small : value < 2 ^ 44
-  pub whole : request_of (kind_of q) (request_site q) value ≡ q
+  pub whole : request_of (kind_of q) (record { 0 = request_site q }) value ≡ Some q
   pub done : Done ≡ r
   pub one : 1 ≡ count
 
@@ -80,7 +81,7 @@ pub record Matches (table : SiteTable) (word : ℕ) (q : Request) : Type 0 where
   pub row : SiteRow
   pub found : row_at table (site_part word) ≡ Some row
   pub check : kind_part word ≡ 1
-  pub whole : request_of row.request (site_part word) (value_part word) ≡ q
+  pub whole : request_of row.request (record { 0 = site_part word }) (value_part word) ≡ Some q
 
 pub matches : (table : SiteTable) (words : List ℕ) (word : ℕ) (q : Request) (r : Response) (count : ℕ) → slice_get words 0 ≡ Some word → Begins table words q r count → Matches table word q
 matches table words word q r count at b =
@@ -95,7 +96,9 @@ matches table words word q r count at b =
       row = t.row;
       found = ap (row_at table) site ∙ t.found;
       check = kind;
-      whole = ap (λ s. request_of t.row.request s (value_part word)) site ∙ ap (request_of t.row.request (request_site q)) value ∙ ap (λ k. request_of k (request_site q) t.value) t.kind ∙ t.whole;
+      whole =
+          ap (λ s. request_of t.row.request (record { 0 = s }) (value_part word)) site ∙ ap (request_of t.row.request (record { 0 = request_site q })) value
+          ∙ ap (λ k. request_of k (record { 0 = request_site q }) t.value) t.kind ∙ t.whole;
     }
 
 -- no words begin with none
@@ -116,12 +119,15 @@ abbrev pub found_as : Request → Response → ℕ → Option (Request × Respon
 found_as q r count = Some (q, r, count)
 
 -- it is what the words begin with
-pub same_row : (table : SiteTable) (words : List ℕ) (word : ℕ) (q : Request) (r : Response) (count : ℕ) (row : SiteRow) (site value : ℕ) (kind : RequestKind) → slice_get words 0 ≡ Some word → site ≡ site_part word → value ≡ value_part word →
-    row_at table site ≡ Some row → row.request ≡ kind → Begins table words q r count → found_as (request_of kind site value) Done 1 ≡ found_as q r count
-same_row table words word q r count row site value kind at site_is value_is found asked b =
-    let m = matches table words word q r count at b in
-    let t = told table words q r count b in
-    let rows : row ≡ m.row = let both : Some row ≡ Some m.row = sym found ∙ ap (row_at table) site_is ∙ m.found in cc in
-    let q_is : request_of kind site value ≡ q =
-    ap (λ k. request_of k site value) (sym asked ∙ ap (λ (o : SiteRow). o.request) rows) ∙ ap (λ s. request_of m.row.request s value) site_is ∙ ap (request_of m.row.request (site_part word)) value_is ∙ m.whole in
-    rw (q_is, t.done, t.one) refl
+module _ (table : SiteTable) (words : List ℕ) (word : ℕ) (q : Request) (r : Response) (count : ℕ) (row : SiteRow) (site : Site) (value : ℕ) (at : slice_get words 0 ≡ Some word) (site_is : site.0 ≡ site_part word) (value_is : value ≡ value_part word) (found : row_at table site.0 ≡ Some row) (b : Begins table words q r count) where
+  pub asked_here : request_of row.request site value ≡ Some q
+  asked_here =
+      let m = matches table words word q r count at b in
+      let rows : row ≡ m.row = let both : Some row ≡ Some m.row = sym found ∙ ap (row_at table) site_is ∙ m.found in cc in
+      ap (λ (o : SiteRow). request_of o.request site value) rows ∙ ap (λ s. request_of m.row.request (record { 0 = s }) value) site_is ∙ ap (request_of m.row.request (record { 0 = site_part word })) value_is ∙ m.whole
+
+  pub same_row : (p : Request) → request_of row.request site value ≡ Some p → found_as p Done 1 ≡ found_as q r count
+  same_row p asked =
+      let t = told table words q r count b in
+      let same : p ≡ q = let both : Some p ≡ Some q = sym asked ∙ asked_here in cc in
+      rw (same, t.done, t.one) refl

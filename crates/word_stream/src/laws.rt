@@ -8,5 +8,7 @@ ghost use Rattle.word_stream.specs.Reading.{IsOf, Begins};
 /// A law: what `words_of` writes of an exchange that a table allows, `read_words` reads back,
 /// whatever follows.
 pub fn exchanges_read_back()
-    ensures { (table : SiteTable) (request : Request) (response : Response) (rest : List ℕ) → IsOf table request response → Begins table (exchange request response ++ rest) request response (length (exchange request response)) }
+    ensures { (table : SiteTable) (request : Request) (response : Response) (rest : List ℕ)
+        → IsOf table request response
+        → Begins table (exchange request response ++ rest) request response (length (exchange request response)) }
 {}

@@ -16,4 +16,4 @@ mod tests;
 pub use laws::exchanges_read_back;
 pub use request::{Request, Response};
 pub use spelling::{Out, words_of};
-pub use table::{RequestKind, SiteRow, SiteTable, read_words};
+pub use table::{SiteRow, SiteTable, read_words, request_of};

@@ -1,20 +1,11 @@
 ghost use Rattle.std.specs.Prelude.{◌≡◌, ℕ, IfSome, Some};
 ghost use Rattle.word_stream.specs.declared.request.Request.{Request};
 ghost use Rattle.word_stream.specs.declared.request.Response.{Response};
-ghost use Rattle.word_stream.specs.Reading.{Begins};
+ghost use Rattle.word_stream.specs.Reading.{Begins, request_of};
 
 use crate::request::{Request, Response};
 use sqlite_items::Items;
-use srmt_base::{Kind, Site, Word};
-
-/// What an instruction asks of the outside.
-#[derive(Clone, Copy, Debug, PartialEq, Eq)]
-pub enum RequestKind {
-    /// A byte is to be written.
-    Put,
-    /// The run is to end.
-    Exit,
-}
+use srmt_base::{Kind, RequestKind, Site, Word};
 
 /// What is asked at one site.
 #[derive(Clone, Copy, Debug, PartialEq, Eq)]
@@ -57,18 +48,35 @@ pub fn read_words(kinds: &SiteTable, words: &[Word]) -> Option<(Request, Respons
     ensures begins { IfSome result (λ found. Begins kinds.now words.now found.0 found.1 found.2) }
 
     // There is no other, and `None` only where there is none.
-    ensures only { (request : Request) (response : Response) (count : ℕ) → Begins kinds.now words.now request response count → result ≡ Some (record { 0 = request; 1 = response; 2 = count }) }
+    ensures only { (request : Request) (response : Response) (count : ℕ)
+        → Begins kinds.now words.now request response count
+        → result ≡ Some (record { 0 = request; 1 = response; 2 = count }) }
 {
     let word = *words.first()?;
     if word.kind() != Kind::Check {
         return None;
     }
     let site = word.site();
-    let value = word.value();
     let row = kinds.row(site)?;
-    let request = match row.request {
-        RequestKind::Put => Request::Put { site, value },
-        RequestKind::Exit => Request::Exit { site, value },
-    };
+    let request = request_of(row.request, site, word.value())?;
     Some((request, Response::Done, 1))
+}
+
+/// The request of a kind at a site with this operand, or `None` for the kinds that nothing asks yet.
+pub fn request_of(kind: RequestKind, site: Site, value: u64) -> Option<Request>
+    ensures { result ≡ request_of kind site value }
+{
+    match kind {
+        RequestKind::Put => Some(Request::Put { site, value }),
+        RequestKind::Exit => Some(Request::Exit { site, value }),
+        RequestKind::Load
+        | RequestKind::Store
+        | RequestKind::VLoad
+        | RequestKind::VStore
+        | RequestKind::Get
+        | RequestKind::Open
+        | RequestKind::Close
+        | RequestKind::Call
+        | RequestKind::CallbackReturn => None,
+    }
 }

@@ -1,9 +1,9 @@
 ghost use Rattle.std.specs.Prelude.{◌^◌, ◌<◌, All};
 ghost use Rattle.word_stream.specs.Exchange.{operands_of};
 
-use crate::{Out, Request, RequestKind, Response, SiteRow, SiteTable, read_words, words_of};
+use crate::{Out, Request, Response, SiteRow, SiteTable, read_words, words_of};
 use sqlite_items::Items;
-use srmt_base::{Kind, Site, Word, pack};
+use srmt_base::{Kind, RequestKind, Site, Word, pack};
 use std::alloc::{AllocError, Global};
 use std::test::Fail;
 

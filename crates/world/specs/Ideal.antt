@@ -1,26 +1,25 @@
--- The ideal run: one machine that asks the world at once whatever it wants. Nothing is compared and
+-- The ideal run: one run that asks the world at once whatever it wants. Nothing is compared and
 -- nothing fails. Its words are those of its exchanges, in order.
 use Rattle.std.specs.Prelude.{◌≡◌, ℕ, zero, suc, Bool, true, false, List, [], ◌++◌}
 use Rattle.srmt_base.specs.declared.event.Event.{Event}
 use Rattle.srmt_base.specs.declared.trap.SourceEnd.{SourceEnd}
 use Rattle.srmt_base.specs.declared.trap.SourceEnd.TheVariants.{Trap as TrapEnd}
 use Rattle.srmt_base.specs.declared.limits.Limits.{Limits}
-use Rattle.mid_code.specs.declared.program.MidProgram.{MidProgram}
-use Rattle.mid_code.specs.Machine.{Machine}
-use Rattle.mid_code.specs.Start.{started_machine}
+use Rattle.mid_code.specs.Classes.{SharedProgram}
 use Rattle.word_stream.specs.declared.request.Request.{Request}
 use Rattle.word_stream.specs.declared.request.Response.{Response}
 use Rattle.word_stream.specs.Exchange.{is_guarded, checks_of, acks_of, response_words, exchange}
 use Rattle.world.specs.World.{WorldState, Asked, ask, opened}
+use Rattle.world.specs.Standing.{Standing, started_standing}
 use Rattle.world.specs.Requests.{Wants, Runs, Dies, Requests, Lost, wants, Resumed, Back, Over, resume}
 
--- where the run stands
+-- where the run is
 pub data Place : Type 0 where
   -- before an instruction
-  Here : (machine : Machine) → Place
-  -- the operands of the machine's request were checked and the world has answered; the response is
-  -- still to be taken
-  Owed : (machine : Machine) (response : Response) → Place
+  Here : (at : Standing) → Place
+  -- the operands of the request were checked and the world has answered; the response is still to be
+  -- taken
+  Owed : (at : Standing) (response : Response) → Place
   -- the run has ended
   Ended : (end : SourceEnd) → Place
 
@@ -34,72 +33,72 @@ pub record IdealState : Type 0 where
   pub events : List Event
 
 -- at the start `main` is entered and nothing was asked
-abbrev pub ideal_opening : MidProgram → List ℕ → Limits → IdealState
+abbrev pub ideal_opening : SharedProgram → List ℕ → Limits → IdealState
 ideal_opening program input limits = record {
-  place = Here (started_machine program limits);
-  world = opened program input limits;
+  place = Here (started_standing program.program limits);
+  world = opened program.program input limits;
   words = [];
   echoes = [];
   events = [];
 }
 
 abbrev pub place_by : Resumed → Place
-place_by (Back m) = Here m
+place_by (Back at) = Here at
 place_by (Over end) = Ended end
 
--- the words of the response that the machine's request gets
+-- the words of the response that the request gets
 abbrev pub words_owed : Wants → Response → List ℕ
 words_owed (Runs next) response = []
-words_owed (Dies trap line) response = []
+words_owed (Dies words trap line) response = []
 words_owed (Requests request) response = response_words request response
-words_owed Lost response = []
+words_owed (Lost words) response = []
 
 -- a request that waits for acknowledgements is answered in one step, and its response taken in the
 -- next; any other is one step
-abbrev pub requested : Bool → MidProgram → Machine → Request → Asked → IdealState → IdealState
-requested true program m request asked c = record {
-  place = Owed m asked.response;
+abbrev pub requested : Bool → SharedProgram → Standing → Request → Asked → IdealState → IdealState
+requested true program at request asked c = record {
+  place = Owed at asked.response;
   world = asked.world;
   words = c.words ++ checks_of request;
   echoes = c.echoes ++ acks_of request;
   events = c.events ++ asked.events;
 }
-requested false program m request asked c = record {
-  place = place_by (resume program m asked.response);
+requested false program at request asked c = record {
+  place = place_by (resume program at asked.response);
   world = asked.world;
   words = c.words ++ exchange request asked.response;
   echoes = c.echoes;
   events = c.events ++ asked.events;
 }
 
-abbrev pub here_next : Wants → MidProgram → Machine → IdealState → IdealState
-here_next (Runs next) program m c = record c { place = Here next }
-here_next (Dies trap line) program m c = record c { place = Ended (TrapEnd trap line) }
-here_next (Requests request) program m c = requested (is_guarded request) program m request (ask c.world request) c
-here_next Lost program m c = c
+abbrev pub here_next : Wants → SharedProgram → Standing → IdealState → IdealState
+here_next (Runs next) program at c = record c { place = Here next }
+here_next (Dies words trap line) program at c = record c { place = Ended (TrapEnd trap line); words = c.words ++ words }
+here_next (Requests request) program at c = requested (is_guarded request) program at request (ask c.world request) c
+here_next (Lost words) program at c = c
 
-abbrev pub owed_next : MidProgram → Machine → Response → IdealState → IdealState
-owed_next program m response c = record c {
-  place = place_by (resume program m response);
-  words = c.words ++ words_owed (wants program m) response;
+abbrev pub owed_next : SharedProgram → Standing → Response → IdealState → IdealState
+owed_next program at response c = record c {
+  place = place_by (resume program at response);
+  words = c.words ++ words_owed (wants program at) response;
 }
 
-abbrev pub next_by : Place → MidProgram → IdealState → IdealState
-next_by (Here m) program c = here_next (wants program m) program m c
-next_by (Owed m response) program c = owed_next program m response c
+abbrev pub next_by : Place → SharedProgram → IdealState → IdealState
+next_by (Here at) program c = here_next (wants program at) program at c
+next_by (Owed at response) program c = owed_next program at response c
 next_by (Ended end) program c = c
 
 -- one step of the ideal run
-abbrev pub ideal_next : MidProgram → IdealState → IdealState
+abbrev pub ideal_next : SharedProgram → IdealState → IdealState
 ideal_next program c = next_by c.place program c
 
 -- the ideal run after so many steps
-abbrev pub ideal : MidProgram → List ℕ → Limits → ℕ → IdealState
+abbrev pub ideal : SharedProgram → List ℕ → Limits → ℕ → IdealState
 ideal program input limits zero = ideal_opening program input limits
 ideal program input limits (suc before) = ideal_next program (ideal program input limits before)
 
 -- the ideal run ends so, with these words and these events in all
-pub record IsIdeal (program : MidProgram) (input : List ℕ) (limits : Limits) (words : List ℕ) (events : List Event) (end : SourceEnd) : Type 0 where
+pub record IsIdeal (program : SharedProgram) (input : List ℕ) (limits : Limits) (words : List ℕ) (events : List Event) (end : SourceEnd) : Type 0 where
   pub steps : ℕ
   pub ended : (ideal program input limits steps).place ≡ Ended end
   pub words_so : (ideal program input limits steps).words ≡ words

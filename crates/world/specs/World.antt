@@ -9,17 +9,24 @@ use Rattle.word_stream.specs.declared.request.Request.TheVariants.{Put, Exit}
 use Rattle.word_stream.specs.declared.request.Response.{Response}
 use Rattle.word_stream.specs.declared.request.Response.TheVariants.{Done}
 
-pub record WorldState : Type 0 where
-  -- whether it still answers requests
-  pub live : Bool
+-- what a world holds that answers requests
+pub record Inside : Type 0 where
+  -- the bytes of the input that are still to be read
+  pub input : List ℕ
+
+pub data WorldState : Type 0 where
+  -- it answers requests
+  Lives : (inside : Inside) → WorldState
+  -- it answers no more: the run has ended, or a request failed
+  Over : WorldState
+
+abbrev pub is_live : WorldState → Bool
+is_live (Lives inside) = true
+is_live Over = false
 
 -- the world in which a program starts
 abbrev pub opened : MidProgram → List ℕ → Limits → WorldState
-opened program input limits = record { live = true }
-
--- the world that answers no more
-abbrev pub stopped : WorldState → WorldState
-stopped world = record world { live = false }
+opened program input limits = Lives (record { input = input })
 
 -- what a request leads to: the world after it, the response, and the events that it gives
 pub record Asked : Type 0 where
@@ -28,8 +35,13 @@ pub record Asked : Type 0 where
   pub events : List Event
 
 -- one case for each request
-unfoldable pub ask : WorldState → Request → Asked
+abbrev pub ask_living : Inside → Request → Asked
 -- the byte is written (C11 7.21.7.8: converted to unsigned char)
-ask world (Put site value) = record { world = world; response = Done; events = Byte (value % 256) ∷ [] }
+ask_living inside (Put site value) = record { world = Lives inside; response = Done; events = Byte (value % 256) ∷ [] }
 -- the run ends (C11 7.22.4.4), and with it the world
-ask world (Exit site value) = record { world = stopped world; response = Done; events = ExitEvent (value % 256) ∷ [] }
+ask_living inside (Exit site value) = record { world = Over; response = Done; events = ExitEvent (value % 256) ∷ [] }
+
+-- a world that is over is not asked: nothing happens in it
+unfoldable pub ask : WorldState → Request → Asked
+ask (Lives inside) request = ask_living inside request
+ask Over request = record { world = Over; response = Done; events = [] }

@@ -1,7 +1,9 @@
-ghost use Rattle.std.specs.Prelude.{◌≡◌, ◌<◌, ◌≤◌, ℕ, [], ◌∷◌, length, take, IsTrue, IfOk, OnOk, OnErr};
-ghost use Rattle.srmt_outside.specs.Count.{Rose};
+ghost use Rattle.std.specs.Prelude.{◌≡◌, [], ◌∷◌, IsTrue, IfOk, OnOk, OnErr};
+ghost use Rattle.srmt_outside.specs.Count.{next_count};
 ghost use Rattle.srmt_outside.specs.Told.{Appends};
-ghost use Rattle.world.specs.World.{opened, stopped, ask};
+ghost use Rattle.mid_code.specs.Start.{FitLimits};
+ghost use Rattle.world.specs.Written.{AppendsSome};
+ghost use Rattle.world.specs.World.{Over, is_live, opened, ask};
 
 use mid_code::Pair;
 use srmt_base::{Event, Limits};
@@ -14,34 +16,36 @@ use word_stream::{Request, Response};
 #[derive(Debug, Drop)]
 pub struct World {
     live: bool,
+    // The input as the run was started with it: no request reads it yet.
+    input: Vec<u8>,
 }
 
 impl Model for World {
     ghost use Rattle.world.specs.World.{WorldState};
+    ghost use Rattle.world.specs.View.{world_of};
 
     ghost Value = { WorldState };
 
-    ghost view = { λ w. record { live = w.live } };
+    ghost view = { λ w. world_of w.live w.input.items };
 }
 
 impl World {
     /// The world in which the pair's program starts.
     pub fn start(
         _alloc: Global,
-        pair: &Pair,
+        _pair: &Pair,
         input: Vec<u8>,
-        limits: Limits,
+        _limits: Limits,
     ) -> Result<World, AllocError>
-        ensures { IfOk result (λ world. world ≡ opened pair.now input.items limits) }
+        requires { FitLimits _pair.now.program _limits }
+        ensures { IfOk result (λ world. world ≡ opened _pair.now.program input.items _limits) }
     {
-        // No request reads the input or spends a budget yet.
-        let _ = (pair, input, limits);
-        Ok(World { live: true })
+        Ok(World { live: true, input })
     }
 
     /// Whether it still answers requests. It does not after a failure, nor after the end of a run.
     pub fn live(&self) -> bool
-        ensures { result ≡ self.now.live }
+        ensures { result ≡ is_live self.now }
     {
         self.live
     }
@@ -61,16 +65,20 @@ impl World {
         request: &Request,
         outlet: &mut O,
     ) -> Result<Response, Failed>
-        requires { IsTrue self.old.live }
+        requires { IsTrue (is_live self.old) }
         ensures world { OnOk result (self.new ≡ (ask self.old request.now).world) }
         ensures response { IfOk result (λ response. response ≡ (ask self.old request.now).response) }
-        ensures events { OnOk result (Appends (O.events outlet.old) (O.events outlet.new) (ask self.old request.now).events) }
+        ensures events { OnOk result (Appends (O.events outlet.old) (O.events outlet.new)
+            (ask self.old request.now).events) }
 
         // The events before the one that failed stay written, and the world answers no more.
-        ensures failed { OnErr result (Rose (O.faults outlet.old) (O.faults outlet.new)) }
-        ensures dead { OnErr result (self.new ≡ stopped self.old) }
-        ensures before { OnErr result ((n : ℕ) × (n < length (ask self.old request.now).events) × Appends (O.events outlet.old) (O.events outlet.new) (take n (ask self.old request.now).events)) }
-        ensures never_falls { O.faults outlet.old ≤ O.faults outlet.new }
+        ensures dead { OnErr result (self.new ≡ Over) }
+        ensures before { OnErr result (AppendsSome (O.events outlet.old) (O.events outlet.new)
+            (ask self.old request.now).events) }
+
+        // It fails exactly where the outlet has counted a fault.
+        ensures stands { OnOk result (O.faults outlet.new ≡ O.faults outlet.old) }
+        ensures counted { OnErr result (O.faults outlet.new ≡ next_count (O.faults outlet.old)) }
     {
         match *request {
             Request::Put { value, .. } => {
@@ -86,13 +94,13 @@ impl World {
 
     // Writes one event, without which the world answers no more.
     fn write<O: Outlet>(&mut self, event: Event, outlet: &mut O) -> Result<(), Failed>
-        requires { IsTrue self.old.live }
+        requires { IsTrue (is_live self.old) }
         ensures same { OnOk result (self.new ≡ self.old) }
         ensures appends { OnOk result (Appends (O.events outlet.old) (O.events outlet.new) (event ∷ [])) }
-        ensures dead { OnErr result (self.new ≡ stopped self.old) }
+        ensures dead { OnErr result (self.new ≡ Over) }
         ensures keeps { OnErr result (O.events outlet.new ≡ O.events outlet.old) }
-        ensures rose { OnErr result (Rose (O.faults outlet.old) (O.faults outlet.new)) }
-        ensures never_falls { O.faults outlet.old ≤ O.faults outlet.new }
+        ensures stands { OnOk result (O.faults outlet.new ≡ O.faults outlet.old) }
+        ensures counted { OnErr result (O.faults outlet.new ≡ next_count (O.faults outlet.old)) }
     {
         let written = outlet.event(event);
         self.live = written.is_ok();

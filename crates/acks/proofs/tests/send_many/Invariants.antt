@@ -1,5 +1,6 @@
-use Rattle.std.proofs.Common.{◌≡◌, ◌≤◌, length}
+use Rattle.std.proofs.Common.{◌≡◌, ◌+◌}
+use Rattle.machine.specs.Link.{SentBelow}
 use Rattle.acks.proofs.tests.send_many.Given as goal
 
 abbrev pub invariant-loop-value : goal.invariant-loop-value
-invariant-loop-value g l = (length (g.L.Link.sent l.link) ≤ l.value) × (g.L.Link.made l.link ≡ g.L.Link.made l.initial.link)
+invariant-loop-value g l = SentBelow (l.value + 1) (g.L.Link.shows l.link) × ((g.L.Link.shows l.link).made ≡ (g.L.Link.shows l.initial.link).made)

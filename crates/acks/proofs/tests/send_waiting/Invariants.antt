@@ -1,5 +1,6 @@
-use Rattle.std.proofs.Common.{◌≡◌, ◌≤◌, length}
+use Rattle.std.proofs.Common.{◌≡◌, ◌+◌}
+use Rattle.machine.specs.Link.{SentBelow}
 use Rattle.acks.proofs.tests.send_waiting.Given as goal
 
 abbrev pub invariant-loop : goal.invariant-loop
-invariant-loop g l = (length (g.L.Link.sent l.link) ≤ l.fn.value) × (g.L.Link.made l.link ≡ g.L.Link.made l.initial.link)
+invariant-loop g l = SentBelow (l.fn.value + 1) (g.L.Link.shows l.link) × ((g.L.Link.shows l.link).made ≡ (g.L.Link.shows l.initial.link).made)

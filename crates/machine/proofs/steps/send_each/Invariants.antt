@@ -1,14 +1,9 @@
-use Rattle.std.proofs.Common.{◌≡◌, map, take}
+use Rattle.std.proofs.Common.{map, take}
 use Rattle.srmt_base.specs.Word.{word_of}
+use Rattle.mid_code.specs.Versions.{operands_list}
 use Rattle.machine.specs.Steps.{operands}
-use Rattle.machine.proofs.Sending.{SentSo}
+use Rattle.machine.specs.Link.{IsSent}
 use Rattle.machine.proofs.steps.send_each.Given as goal
 
-abbrev pub invariant-loop-arg : goal.invariant-loop-arg
-invariant-loop-arg g l =
-    SentSo (g.L.Link.gone l.initial.link) (g.L.Link.gone l.link) (g.L.Link.spare l.link) (g.L.Link.sent l.initial.link) (g.L.Link.sent l.link)
-    (map (word_of l.kind l.site.0) (operands l.m (take l.arg-index l.args))) l.arg-index
-    × (g.L.Link.taken l.link ≡ g.L.Link.taken l.initial.link)
-    × (g.L.Link.asks l.link ≡ g.L.Link.asks l.initial.link)
-    × (g.L.Link.last l.link ≡ g.L.Link.last l.initial.link)
-    × (g.L.Link.made l.link ≡ g.L.Link.made l.initial.link)
+abbrev pub invariant-loop-i : goal.invariant-loop-i
+invariant-loop-i g l = IsSent (map (word_of l.kind l.site.0) (operands l.m (take l.i (operands_list l.args)))) (g.L.Link.shows l.initial.link) (g.L.Link.shows l.link)

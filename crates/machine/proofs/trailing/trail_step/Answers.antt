@@ -1,16 +1,18 @@
 use Rattle.std.proofs.Common.{◌%◌, true, [], inl, inr, ap, sym}
 use Rattle.std.specs.Option.{option_copied}
 use Rattle.srmt_base.specs.declared.side.Side.TheVariants.{Trail}
-use Rattle.mid_code.specs.Machine.{act, register}
-use Rattle.mid_code.specs.declared.version.VersionOp.TheVariants.{Copied, Ask, Await, Act, Check, Ack, End}
-use Rattle.world.specs.World.{WorldState, ask}
-use Rattle.machine.specs.declared.link_call.LastCall.TheVariants.{Nothing}
+use Rattle.mid_code.specs.Versions.{operands_list}
+use Rattle.machine.specs.Steps.{holds}
+use Rattle.mid_code.specs.declared.version.VersionOp.TheVariants.{Copied, SharedLoad, SharedStore, SharedOpen, SharedClose, Ask, Await, Act, Enter, Callback, Check, CheckZero, CheckStored, Ack, Take, TakeDone, CheckOpen, CheckClose, End}
+use Rattle.world.specs.World.{WorldState, Over}
+use Rattle.machine.specs.declared.link_call.Taken.TheVariants.{NotYet}
+use Rattle.machine.specs.OneStep.{unasked}
 use Rattle.verdicts.specs.declared.thread_end.ThreadEnd.TheVariants.{Exit as ExitEnd}
 use Rattle.machine.specs.declared.stepped.Stepped.TheVariants.{Ended as MadeLast}
 use Rattle.machine.specs.Side.{Ended}
-use Rattle.machine.specs.Tried.{Shown}
+use Rattle.machine.specs.Link.{Shown}
 use Rattle.machine.proofs.Trying.{was_quiet}
-use Rattle.machine.proofs.Standing.{found_at, small_place, op_here, args_within, source_within, copied_within, trail_tries, trail_fits_after}
+use Rattle.machine.proofs.Standing.{found_at, near_here, op_here, can_spell, source_within, copied_within, trail_tries, trail_fits_after}
 use Rattle.machine.proofs.trailing.trail_step.Goals as goal
 
 pub perform-stepped-requires-clause-performed : goal.perform-stepped-requires-clause-performed
@@ -19,9 +21,9 @@ perform-stepped-requires-clause-performed g c =
     let here = op_here Trail c.args.pair.now c.args.m.now c.classed-pair.ensures.sites c.requires.fits c.in-Some.line.now (Copied c.in-Copied.mid) at c.in-Copied.is in
     copied_within Trail c.args.pair.now c.args.m.now c.classed-pair.ensures.sites c.requires.fits c.in-Copied.mid here
 
-pub perform-stepped-requires-clause-place : goal.perform-stepped-requires-clause-place
-perform-stepped-requires-clause-place g c =
-    small_place Trail c.args.pair.now c.args.m.now c.classed-pair.ensures.sites c.requires.fits
+pub perform-stepped-requires-clause-near : goal.perform-stepped-requires-clause-near
+perform-stepped-requires-clause-near g c =
+    near_here Trail c.args.pair.now c.args.m.now c.classed-pair.ensures.sites c.requires.fits
 
 pub check_word-stepped-requires-clause-register : goal.check_word-stepped-requires-clause-register
 check_word-stepped-requires-clause-register g c =
@@ -29,25 +31,19 @@ check_word-stepped-requires-clause-register g c =
     let here = op_here Trail c.args.pair.now c.args.m.now c.classed-pair.ensures.sites c.requires.fits c.in-Some.line.now (Check c.in-Check.site c.in-Check.source) at c.in-Check.is in
     source_within Trail c.args.pair.now c.args.m.now c.classed-pair.ensures.sites c.requires.fits c.in-Check.source here
 
-pub check_word-stepped-requires-clause-place : goal.check_word-stepped-requires-clause-place
-check_word-stepped-requires-clause-place g c =
-    small_place Trail c.args.pair.now c.args.m.now c.classed-pair.ensures.sites c.requires.fits
+pub check_word-stepped-requires-clause-near : goal.check_word-stepped-requires-clause-near
+check_word-stepped-requires-clause-near g c =
+    near_here Trail c.args.pair.now c.args.m.now c.classed-pair.ensures.sites c.requires.fits
 
-pub send_operands-stepped-requires-clause-few : goal.send_operands-stepped-requires-clause-few
-send_operands-stepped-requires-clause-few g c =
+pub send_operands-stepped-requires-clause-spelled : goal.send_operands-stepped-requires-clause-spelled
+send_operands-stepped-requires-clause-spelled g c =
     let at = found_at Trail c.args.pair.now c.args.m.now _ c.in-Some.line.now _ c.m.view_is c.trailing_at.ensures (ap option_copied c.in-Some.is) in
-    let here = op_here Trail c.args.pair.now c.args.m.now c.classed-pair.ensures.sites c.requires.fits c.in-Some.line.now (Ack c.in-Ack.site c.in-Ack.args) at c.in-Ack.is in
-    here.few
+    let here = op_here Trail c.args.pair.now c.args.m.now c.classed-pair.ensures.sites c.requires.fits c.in-Some.line.now (Ack c.in-Ack.site c.in-Ack.operands) at c.in-Ack.is in
+    can_spell Trail c.args.pair.now c.args.m.now c.classed-pair.ensures.sites c.requires.fits (operands_list c.in-Ack.operands) here
 
-pub send_operands-stepped-requires-clause-registers : goal.send_operands-stepped-requires-clause-registers
-send_operands-stepped-requires-clause-registers g c =
-    let at = found_at Trail c.args.pair.now c.args.m.now _ c.in-Some.line.now _ c.m.view_is c.trailing_at.ensures (ap option_copied c.in-Some.is) in
-    let here = op_here Trail c.args.pair.now c.args.m.now c.classed-pair.ensures.sites c.requires.fits c.in-Some.line.now (Ack c.in-Ack.site c.in-Ack.args) at c.in-Ack.is in
-    args_within Trail c.args.pair.now c.args.m.now c.classed-pair.ensures.sites c.requires.fits c.in-Ack.args here
-
-pub send_operands-stepped-requires-clause-place : goal.send_operands-stepped-requires-clause-place
-send_operands-stepped-requires-clause-place g c =
-    small_place Trail c.args.pair.now c.args.m.now c.classed-pair.ensures.sites c.requires.fits
+pub send_operands-stepped-requires-clause-near : goal.send_operands-stepped-requires-clause-near
+send_operands-stepped-requires-clause-near g c =
+    near_here Trail c.args.pair.now c.args.m.now c.classed-pair.ensures.sites c.requires.fits
 
 pub register-requires : goal.register-requires
 register-requires g c =
@@ -55,15 +51,64 @@ register-requires g c =
     let here = op_here Trail c.args.pair.now c.args.m.now c.classed-pair.ensures.sites c.requires.fits c.in-Some.line.now (End c.in-End.source) at c.in-End.is in
     source_within Trail c.args.pair.now c.args.m.now c.classed-pair.ensures.sites c.requires.fits c.in-End.source here
 
-pub unreachable-requires-in-Ask : goal.unreachable-requires-in-Ask
-unreachable-requires-in-Ask g c =
+pub unreachable-requires-in-SharedLoad : goal.unreachable-requires-in-SharedLoad
+unreachable-requires-in-SharedLoad g c =
     let at = found_at Trail c.args.pair.now c.args.m.now _ c.in-Some.line.now _ c.m.view_is c.trailing_at.ensures (ap option_copied c.in-Some.is) in
-    elim c.in-Ask.is [
-      | inl ask ↦ op_here Trail c.args.pair.now c.args.m.now c.classed-pair.ensures.sites c.requires.fits c.in-Some.line.now (Ask ask.0 ask.1) at ask.2
-      | inr rest ↦ elim rest [
-        | inl await ↦ op_here Trail c.args.pair.now c.args.m.now c.classed-pair.ensures.sites c.requires.fits c.in-Some.line.now (Await await.0 await.1) at await.2
-        | inr act ↦ op_here Trail c.args.pair.now c.args.m.now c.classed-pair.ensures.sites c.requires.fits c.in-Some.line.now (Act act.0 act.1 act.2) at act.3
-      ]
+    elim c.in-SharedLoad.is [
+      | inl x ↦ op_here Trail c.args.pair.now c.args.m.now c.classed-pair.ensures.sites c.requires.fits c.in-Some.line.now (SharedLoad x.0 x.1 x.2) at x.3
+      | inr rest ↦
+          elim rest [
+            | inl x ↦ op_here Trail c.args.pair.now c.args.m.now c.classed-pair.ensures.sites c.requires.fits c.in-Some.line.now (SharedStore x.0 x.1 x.2) at x.3
+            | inr rest ↦
+                elim rest [
+                  | inl x ↦ op_here Trail c.args.pair.now c.args.m.now c.classed-pair.ensures.sites c.requires.fits c.in-Some.line.now (SharedOpen x.0 x.1 x.2) at x.3
+                  | inr rest ↦
+                      elim rest [
+                        | inl x ↦ op_here Trail c.args.pair.now c.args.m.now c.classed-pair.ensures.sites c.requires.fits c.in-Some.line.now (SharedClose x.0) at x.1
+                        | inr rest ↦
+                            elim rest [
+                              | inl x ↦ op_here Trail c.args.pair.now c.args.m.now c.classed-pair.ensures.sites c.requires.fits c.in-Some.line.now (Ask x.0 x.1) at x.2
+                              | inr rest ↦
+                                  elim rest [
+                                    | inl x ↦ op_here Trail c.args.pair.now c.args.m.now c.classed-pair.ensures.sites c.requires.fits c.in-Some.line.now (Await x.0 x.1) at x.2
+                                    | inr rest ↦
+                                        elim rest [
+                                          | inl x ↦ op_here Trail c.args.pair.now c.args.m.now c.classed-pair.ensures.sites c.requires.fits c.in-Some.line.now (Act x.0 x.1 x.2 x.3 x.4) at x.5
+                                          | inr rest ↦
+                                              elim rest [
+                                                | inl x ↦ op_here Trail c.args.pair.now c.args.m.now c.classed-pair.ensures.sites c.requires.fits c.in-Some.line.now (Enter x.0 x.1 x.2 x.3 x.4) at x.5
+                                                | inr rest ↦
+                                                    elim rest [
+                                                      | inl x ↦ op_here Trail c.args.pair.now c.args.m.now c.classed-pair.ensures.sites c.requires.fits c.in-Some.line.now (Callback x.0) at x.1
+                                                      | inr rest ↦
+                                                          elim rest [
+                                                            | inl x ↦ op_here Trail c.args.pair.now c.args.m.now c.classed-pair.ensures.sites c.requires.fits c.in-Some.line.now (CheckZero x.0) at x.1
+                                                            | inr rest ↦
+                                                                elim rest [
+                                                                  | inl x ↦ op_here Trail c.args.pair.now c.args.m.now c.classed-pair.ensures.sites c.requires.fits c.in-Some.line.now (CheckStored x.0 x.1) at x.2
+                                                                  | inr rest ↦
+                                                                      elim rest [
+                                                                        | inl x ↦ op_here Trail c.args.pair.now c.args.m.now c.classed-pair.ensures.sites c.requires.fits c.in-Some.line.now (Take x.0 x.1) at x.2
+                                                                        | inr rest ↦
+                                                                            elim rest [
+                                                                              | inl x ↦ op_here Trail c.args.pair.now c.args.m.now c.classed-pair.ensures.sites c.requires.fits c.in-Some.line.now (TakeDone x.0) at x.1
+                                                                              | inr rest ↦
+                                                                                  elim rest [
+                                                                                    | inl x ↦ op_here Trail c.args.pair.now c.args.m.now c.classed-pair.ensures.sites c.requires.fits c.in-Some.line.now (CheckOpen x.0 x.1 x.2) at x.3
+                                                                                    | inr x ↦ op_here Trail c.args.pair.now c.args.m.now c.classed-pair.ensures.sites c.requires.fits c.in-Some.line.now (CheckClose x.0) at x.1
+                                                                                  ]
+                                                                            ]
+                                                                      ]
+                                                                ]
+                                                          ]
+                                                    ]
+                                              ]
+                                        ]
+                                  ]
+                            ]
+                      ]
+                ]
+          ]
     ]
 
 pub returns-in-Copied-clause-step : goal.returns-in-Copied-clause-step
@@ -75,8 +120,8 @@ returns-in-Copied-clause-step g c w =
 pub returns-in-Copied-clause-fits : goal.returns-in-Copied-clause-fits
 returns-in-Copied-clause-fits g c =
     let at = found_at Trail c.args.pair.now c.args.m.now _ c.in-Some.line.now _ c.m.view_is c.trailing_at.ensures (ap option_copied c.in-Some.is) in
-    let w : WorldState = record { live = true } in
-    let link : Shown = record { sent = []; taken = []; gone = true; asks = 0; last = Nothing } in
+    let w : WorldState = Over in
+    let link : Shown = unasked NotYet 0 true in
     let tries =
     trail_tries c.args.pair.now c.args.m.now c.perform-stepped.new.m w w c.perform-stepped.result [] link link c.in-Some.line.now (Copied c.in-Copied.mid) at c.in-Copied.is
     (was_quiet _ c.args.m.now c.perform-stepped.new.m w c.perform-stepped.result link (c.perform-stepped.ensures.comes c.args.pair.now))
@@ -92,7 +137,7 @@ returns-in-Check-clause-step g c w =
 pub returns-in-Check-clause-fits : goal.returns-in-Check-clause-fits
 returns-in-Check-clause-fits g c =
     let at = found_at Trail c.args.pair.now c.args.m.now _ c.in-Some.line.now _ c.m.view_is c.trailing_at.ensures (ap option_copied c.in-Some.is) in
-    let w : WorldState = record { live = true } in
+    let w : WorldState = Over in
     let tries =
     trail_tries c.args.pair.now c.args.m.now c.check_word-stepped.new.m w w c.check_word-stepped.result [] _ _ c.in-Some.line.now (Check c.in-Check.site c.in-Check.source) at c.in-Check.is
     (c.check_word-stepped.ensures.tries w)
@@ -102,15 +147,15 @@ returns-in-Check-clause-fits g c =
 pub returns-in-Ack-clause-step : goal.returns-in-Ack-clause-step
 returns-in-Ack-clause-step g c w =
     let at = found_at Trail c.args.pair.now c.args.m.now _ c.in-Some.line.now _ c.m.view_is c.trailing_at.ensures (ap option_copied c.in-Some.is) in
-    trail_tries c.args.pair.now c.args.m.now c.send_operands-stepped.new.m w w c.send_operands-stepped.result [] _ _ c.in-Some.line.now (Ack c.in-Ack.site c.in-Ack.args) at c.in-Ack.is
+    trail_tries c.args.pair.now c.args.m.now c.send_operands-stepped.new.m w w c.send_operands-stepped.result [] _ _ c.in-Some.line.now (Ack c.in-Ack.site c.in-Ack.operands) at c.in-Ack.is
     (c.send_operands-stepped.ensures.tries w)
 
 pub returns-in-Ack-clause-fits : goal.returns-in-Ack-clause-fits
 returns-in-Ack-clause-fits g c =
     let at = found_at Trail c.args.pair.now c.args.m.now _ c.in-Some.line.now _ c.m.view_is c.trailing_at.ensures (ap option_copied c.in-Some.is) in
-    let w : WorldState = record { live = true } in
+    let w : WorldState = Over in
     let tries =
-    trail_tries c.args.pair.now c.args.m.now c.send_operands-stepped.new.m w w c.send_operands-stepped.result [] _ _ c.in-Some.line.now (Ack c.in-Ack.site c.in-Ack.args) at c.in-Ack.is
+    trail_tries c.args.pair.now c.args.m.now c.send_operands-stepped.new.m w w c.send_operands-stepped.result [] _ _ c.in-Some.line.now (Ack c.in-Ack.site c.in-Ack.operands) at c.in-Ack.is
     (c.send_operands-stepped.ensures.tries w)
     in
     trail_fits_after c.args.pair.now c.args.m.now c.send_operands-stepped.new.m w w [] _ _ c.send_operands-stepped.result c.classed-pair.ensures.sites c.requires.fits tries
@@ -119,4 +164,4 @@ pub returns-in-End-clause-step : goal.returns-in-End-clause-step
 returns-in-End-clause-step g c w =
     let at = found_at Trail c.args.pair.now c.args.m.now _ c.in-Some.line.now _ c.m.view_is c.trailing_at.ensures (ap option_copied c.in-Some.is) in
     trail_tries c.args.pair.now c.args.m.now c.args.m.now w w (MadeLast (ExitEnd (c.register.result % 256))) [] _ _ c.in-Some.line.now (End c.in-End.source) at c.in-End.is
-    (was_quiet (Ended (ExitEnd (register c.args.m.now.machine c.in-End.source % 256))) c.args.m.now c.args.m.now w (MadeLast (ExitEnd (c.register.result % 256))) _ (ap (λ v. Ended (ExitEnd (v % 256))) (sym c.register.ensures)))
+    (was_quiet (Ended (ExitEnd (holds c.args.m.now c.in-End.source % 256))) c.args.m.now c.args.m.now w (MadeLast (ExitEnd (c.register.result % 256))) _ (ap (λ v. Ended (ExitEnd (v % 256))) (sym c.register.ensures)))

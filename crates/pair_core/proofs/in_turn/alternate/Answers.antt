@@ -1,8 +1,13 @@
-use Rattle.std.proofs.Common.{◌<◌, [], ◌++◌, sym, subst, arith}
+use Rattle.std.proofs.Common.{◌<◌, false, [], ◌++◌, sym, ap, ◌∙◌, subst}
 use Rattle.srmt_outside.proofs.Told.{Appends-nothing, Appends-both}
-use Rattle.pair_core.proofs.Alternating.{turns_left, turns_lower, turns_reach, countable, answered_so, rose_on, opening_fits, opening_goes}
+use Rattle.machine.specs.Upset.{no_upsets}
+use Rattle.pair_core.proofs.Alternating.{turns_left, turns_lower, turns_reach, countable, answered_so, opening_fits}
 use Rattle.pair_core.proofs.Reaching.{reached_opening}
-use Rattle.pair_core.specs.Duo.{Reached}
+use Rattle.verdicts.specs.declared.verdict.Ran.{Ran}
+use Rattle.machine.specs.Side.{Outcome}
+use Rattle.pair_core.specs.Duo.{DuoState, Reached}
+use Rattle.pair_core.specs.Faults.{has_failed, faults_turned, faults_told}
+use Rattle.pair_core.proofs.Counts.{counted_on, told_count}
 use Rattle.pair_core.proofs.in_turn.alternate.Goals as goal
 
 pub returns-in-Some-clause-answer : goal.returns-in-Some-clause-answer
@@ -13,10 +18,9 @@ returns-in-Some-clause-answer g c = λ input limits opening.
 
 pub loop-ran-init : goal.loop-ran-init
 loop-ran-init g c = record {
-  reached = λ input limits opening. ([], Appends-nothing _, subst (λ d. Reached c.args.pair.now input limits d []) (sym opening) (reached_opening c.args.pair.now input limits));
+  reached = λ input limits opening. ([], Appends-nothing _, subst (λ d. Reached c.args.pair.now input limits no_upsets d []) (sym opening) (reached_opening c.args.pair.now input limits));
   fits = opening_fits c.args.pair.now c.args.duo.now c.classed-classed.ensures.sites c.requires;
-  failed = λ h. absurd (opening_goes c.args.pair.now c.args.duo.now _ c.requires h);
-  faults = omega arith;
+  faults = ap (λ (d : DuoState). faults_turned false (has_failed d.lead) (g.O.Outlet.faults c.args.outlet.now)) (sym c.requires.2);
 }
 
 pub turn-side-requires-clause-countable : goal.turn-side-requires-clause-countable
@@ -44,6 +48,11 @@ loop-ran-preserved g c =
             turns_reach c.args.pair.now input limits c.loop-ran.duo so_far.0 so_far.2 c.loop-ran.side turn.0 c.turn-side.new.duo turn.1 turn.2 turn.3,
           );
       fits = c.turn-side.ensures.fits;
-      failed = rose_on _ _ _ _ _ c.loop-ran.invariant.failed c.loop-ran.invariant.faults c.turn-side.ensures.never_falls c.turn-side.ensures.failed;
-      faults = omega (arith, c.loop-ran.invariant.faults, c.turn-side.ensures.never_falls);
+      faults = counted_on c.loop-ran.duo.lead c.turn-side.new.duo.lead _ _ _ c.loop-ran.invariant.faults c.turn-side.ensures.faults;
     }
+
+pub returns-in-Some-clause-faults : goal.returns-in-Some-clause-faults
+returns-in-Some-clause-faults g c =
+    let is = c.in-Some.ensures in
+    let faults = g.O.Outlet.faults c.args.outlet.now in
+    c.loop-ran.invariant.faults ∙ ap (λ (o : Outcome). faults_turned false (has_failed o) faults) is.2 ∙ told_count is.0 is.1 faults ∙ ap (λ (r : Ran). faults_told r.verdict faults) (sym is.4)

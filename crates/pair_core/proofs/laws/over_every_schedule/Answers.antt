@@ -1,4 +1,5 @@
-use Rattle.pair_core.proofs.Sounds.{sound_scheduled, first_words, first_events}
+use Rattle.machine.specs.Upset.{no_upsets}
+use Rattle.pair_core.proofs.Sounds.{sound_scheduled, no_trail_fault, first_words, first_events}
 use Rattle.std.proofs.Common.{refl}
 use Rattle.pair_core.proofs.Alternating.{countable}
 use Rattle.pair_core.specs.Duo.{scheduled}
@@ -18,4 +19,7 @@ pub returns-clause-no_fault : goal.returns-clause-no_fault
 returns-clause-no_fault c = λ program input limits entries none. no_fault_scheduled program input limits entries none
 
 pub returns-clause-bounded : goal.returns-clause-bounded
-returns-clause-bounded c = λ program input limits entries sites. countable program input limits (scheduled program input limits entries).duo (scheduled program input limits entries).events sites (entries, refl)
+returns-clause-bounded c = λ program input limits entries sites. countable program input limits (scheduled program input limits no_upsets entries).duo (scheduled program input limits no_upsets entries).events sites (entries, refl)
+
+pub returns-clause-trail_no_fault : goal.returns-clause-trail_no_fault
+returns-clause-trail_no_fault c = λ program input limits entries sites. no_trail_fault program input limits sites entries
