@@ -25,7 +25,7 @@ use Rattle.mid_code.specs.declared.version.Operands.TheVariants.{One}
 use Rattle.mid_code.specs.declared.version.VersionOp.{VersionOp}
 use Rattle.mid_code.specs.declared.version.VersionOp.TheVariants.{Copied, Ask, Await, Act, Check, Ack, End}
 use Rattle.mid_code.specs.Program.{function_at, line_at}
-use Rattle.mid_code.specs.Classes.{SharedProgram, site_of, sharing_of, site_count, class_of, classes_of, all_sharings, first_site}
+use Rattle.mid_code.specs.Classes.{SharedProgram, site_of, sharing_of, site_count, class_of, classes_of, all_sharings}
 use Rattle.mid_code.specs.Machine.{register, moved_to, given, local_of, with_local, act, act_at, does}
 use Rattle.mid_code.specs.Pairs.{IsOfFirstForm, HasSites}
 use Rattle.mid_code.specs.Versions.{Table, leading, trailing, size_of, place_in, group_of, versions_of, version_at}
@@ -35,7 +35,7 @@ use Rattle.mid_code.proofs.Keeping.{keeps}
 use Rattle.mid_code.proofs.Naming.{function_kept}
 use Rattle.mid_code.proofs.StartFits.{with_main}
 use Rattle.mid_code.proofs.Values.{one_within}
-use Rattle.mid_code.proofs.VersionGroups.{IsSized, IsProtected, lines_at, sharings_in, classes_in, class_at, class_at-found, classes_found, sharings_at, version_place, place_in-next, fetch}
+use Rattle.mid_code.proofs.VersionGroups.{IsSized, IsProtected, first_site, lines_at, sharings_in, classes_in, class_at, class_at-found, classes_found, sharings_at, version_place, place_in-next, fetch}
 use Rattle.word_stream.specs.declared.request.Request.{Request}
 use Rattle.word_stream.specs.declared.request.Request.TheVariants.{Put as PutAsked, Exit as ExitAsked}
 use Rattle.word_stream.specs.declared.request.Response.{Response}
