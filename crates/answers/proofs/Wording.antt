@@ -1,8 +1,7 @@
 -- The texts of the tables from the texts of their parts.
-use Rattle.std.proofs.Common.{◌≡◌, ℕ, ◌+◌, ◌-◌, ◌<◌, ◌≤◌, List, ◌++◌, codes, refl, sym, ap, subst, ◌∙◌, arith}
+use Rattle.std.proofs.Common.{◌≡◌, ℕ, ◌-◌, ◌<◌, ◌≤◌, List, ◌++◌, codes, refl, sym, ap, ◌∙◌}
 use Rattle.std.specs.Prelude.{decimal, Bool, if◌then◌else◌}
 use Rattle.std.proofs.lemmas.Bool.{le-leb, lt-leb}
-use Rattle.srmt_base.specs.declared.trap.Trap.{Trap as TrapName}
 use Rattle.srmt_base.specs.declared.word.Kind.{Kind}
 use Rattle.srmt_base.specs.declared.word.Kind.TheVariants.{Check, Value, Trap, Callback, Ack, Exit}
 use Rattle.srmt_base.specs.Word.{kind_code, kind_part, site_part, value_part}

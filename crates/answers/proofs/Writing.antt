@@ -1,13 +1,11 @@
 -- What texts written one after the other come to.
-use Rattle.std.proofs.Common.{◌≡◌, ◌⊎◌, inl, inr, ℕ, ◌+◌, ◌≤◌, Bool, true, false, List, [], ◌∷◌, ◌++◌, length, take, drop, Option, Some, None, refl, sym, ap, subst, ◌∙◌, arith, append_assoc}
-use Rattle.std.specs.Prelude.{option_map, codes, ◌^◌, ◌-◌, min}
+use Rattle.std.proofs.Common.{◌≡◌, ◌⊎◌, inl, inr, ℕ, ◌+◌, Bool, true, false, List, [], ◌∷◌, ◌++◌, length, take, drop, Option, Some, None, refl, sym, ap, subst, ◌∙◌, arith, append_assoc}
+use Rattle.std.specs.Prelude.{option_map, codes}
 use Rattle.std.proofs.Math.Seq.{take-append_seam, take-append-add}
 use Rattle.std.proofs.lemmas.List.{take-append-drop, append-nil}
-use Rattle.std.specs.List.{flat_map}
 use Rattle.std.proofs.lemmas.Grind.{flat_map-append}
 use Rattle.srmt_outside.specs.Count.{Rose}
 use Rattle.srmt_outside.specs.Told.{Appends, AppendsPrefix}
-use Rattle.answers.specs.Notes.{written}
 use Rattle.answers.specs.Pens.{Wrote, WroteLines}
 
 appends_both : (before middle after : Option (List ℕ)) (s t : List ℕ) → Appends before middle s → Appends middle after t → Appends before after (s ++ t)

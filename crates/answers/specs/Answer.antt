@@ -5,7 +5,6 @@ use Rattle.srmt_base.specs.declared.trap.SourceEnd.TheVariants.{Exit, Trap}
 use Rattle.srmt_base.specs.Trap.{is_budget}
 use Rattle.srmt_outside.specs.declared.file_fault.FileFault.{FileFault}
 use Rattle.srmt_outside.specs.declared.file_fault.FileFault.TheVariants.{Failed, TooLong as FileTooLong, Memory as NoMemory}
-use Rattle.verdicts.specs.declared.verdict.Ran.{Ran}
 use Rattle.verdicts.specs.declared.verdict.Verdict.{Verdict}
 use Rattle.verdicts.specs.declared.verdict.Verdict.TheVariants.{Exit as ExitVerdict, Undefined, Exhausted, Reported, WriteFault as FaultVerdict}
 use Rattle.answers.specs.declared.answer.RunAnswer.{RunAnswer}

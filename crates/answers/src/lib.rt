@@ -13,6 +13,8 @@ mod lines;
 mod noting;
 mod parts;
 mod pen;
+#[cfg(test)]
+mod tests;
 mod texts;
 
 pub use about::{HELP, VERSION};

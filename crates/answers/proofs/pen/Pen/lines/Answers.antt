@@ -1,4 +1,4 @@
-use Rattle.std.proofs.Common.{refl, sym, ap, map, ◌∙◌, take_all, ℕ, List}
+use Rattle.std.proofs.Common.{refl, sym, ap, map, ◌∙◌, take_all}
 use Rattle.std.proofs.lemmas.List.{map_more}
 use Rattle.answers.proofs.Writing.{no_line, lines_then, lines_spelled}
 use Rattle.answers.proofs.pen.Pen.lines.Goals as goal
