@@ -1,9 +1,9 @@
 use Rattle.std.proofs.Common.{◌≡◌, subst, Result}
 use Rattle.std.specs.Prelude.{IfOk}
-use Rattle.srmtrun.specs.declared.first_form.FirstForm.{FirstForm}
-use Rattle.srmtrun.specs.declared.first_form.FormRefusal.{FormRefusal}
-use Rattle.srmtrun.specs.FirstForm.{IsFirstForm}
-use Rattle.srmtrun.proofs.CodeMeaning.{program_implements}
+use Rattle.first_form.specs.declared.source.FirstForm.{FirstForm}
+use Rattle.first_form.specs.declared.source.FormRefusal.{FormRefusal}
+use Rattle.first_form.specs.FirstForm.{IsFirstForm}
+use Rattle.first_form.proofs.CodeMeaning.{program_implements}
 use Rattle.srmtrun.proofs.tests.pairs.pair_from.Goals as goal
 
 pub pair_of-requires : goal.pair_of-requires
