@@ -4,18 +4,21 @@ use Rattle.std.specs.Prelude.{IfSome}
 use Rattle.std.proofs.lemmas.Option.{same_Some}
 use Rattle.srmt_base.specs.declared.event.Event.{Event}
 use Rattle.srmt_outside.specs.Told.{Appends, AppendsPrefix}
-use Rattle.srmtrun.specs.declared.answer.RunAnswer.{RunAnswer}
-use Rattle.srmtrun.specs.declared.answer.RunAnswer.TheVariants.{Alone, Ran as RanBoth, Usage, ReadFault, TooLong, Refused, WriteFault, OutOfMemory}
-use Rattle.srmtrun.specs.declared.first_form.FirstForm.{FirstForm}
+use Rattle.answers.specs.declared.answer.RunAnswer.{RunAnswer}
+use Rattle.answers.specs.declared.answer.RunAnswer.TheVariants.{Alone, Ran as RanBoth, Help, Version, Usage, ReadFault, TooLong, Refused, WriteFault, OutOfMemory}
+use Rattle.first_form.specs.declared.source.FirstForm.{FirstForm}
 use Rattle.srmtrun.specs.declared.words.Mode.{Mode}
 use Rattle.srmtrun.specs.declared.words.Mode.TheVariants.{Single, Alternate}
-use Rattle.srmtrun.specs.FirstForm.{IsFirstForm}
-use Rattle.srmtrun.specs.Meaning.{events_of, end_of}
+use Rattle.first_form.specs.FirstForm.{IsFirstForm}
+use Rattle.first_form.specs.Meaning.{events_of, end_of}
 use Rattle.srmtrun.specs.Still.{Names, IsSource, IsNoSource, IsTooLong, RunsBoth, AnswersForm}
 use Rattle.srmtrun.specs.Parts.{Serves}
-use Rattle.srmtrun.specs.Words.{flag_of, names_source, Takes}
-use Rattle.srmtrun.specs.Reading.{first_form}
-use Rattle.srmtrun.proofs.Form.{first_form_again}
+use Rattle.srmtrun.specs.declared.words.Question.{Question}
+use Rattle.srmtrun.specs.declared.words.Question.TheVariants.{Help as AskHelp, Version as AskVersion}
+use Rattle.srmtrun.specs.Answer.{IsOfWords}
+use Rattle.srmtrun.specs.Words.{flag_of, names_source, Takes, Asks, IsUsage}
+use Rattle.first_form.specs.Reading.{first_form}
+use Rattle.first_form.proofs.Form.{first_form_again}
 
 -- words that are taken name one program and one mode
 
@@ -62,14 +65,39 @@ module _ (told : Option (List ℕ)) (bytes : List ℕ) (form : FirstForm) (e : t
   answers_form TooLong s = let long = subst IsTooLong e s.0 in absurd (omega arith)
   answers_form (Refused cause) s = absurd ((subst IsNoSource e s.0).1 form is)
   answers_form Usage s = absurd s
+  answers_form Help s = absurd s
+  answers_form Version s = absurd s
+
+-- the answer to words that name a program and a mode is none that the words alone decide
+asks_nothing : (words : List (List ℕ)) (mode : Mode) (program : List ℕ) (question : Question) → Takes words mode program → Asks words question → ⊥
+asks_nothing words mode program question taken asked = by question asked taken.order
+  where
+    by : (question : Question) → Asks words question → ((words ≡ program ∷ flag_of mode ∷ []) ⊎ (words ≡ flag_of mode ∷ program ∷ [])) → ⊥
+    by AskHelp e (inl two) = cc
+    by AskHelp e (inr two) = cc
+    by AskVersion e (inl two) = cc
+    by AskVersion e (inr two) = cc
+
+module _ (words : List (List ℕ)) (mode : Mode) (program : List ℕ) (taken : Takes words mode program) where
+  not_of_words : (answer : RunAnswer) → (answer ≡ Usage → IsUsage words) → (answer ≡ Help → Asks words AskHelp) → (answer ≡ Version → Asks words AskVersion) → IsOfWords answer → ⊥
+  not_of_words Usage usage help version of = (usage refl).taken mode program taken
+  not_of_words Help usage help version of = asks_nothing words mode program AskHelp taken (help refl)
+  not_of_words Version usage help version of = asks_nothing words mode program AskVersion taken (version refl)
+  not_of_words (Alone end) usage help version of = of
+  not_of_words (RanBoth ran) usage help version of = of
+  not_of_words ReadFault usage help version of = of
+  not_of_words TooLong usage help version of = of
+  not_of_words (Refused cause) usage help version of = of
+  not_of_words WriteFault usage help version of = of
+  not_of_words OutOfMemory usage help version of = of
 
 -- A program that is told and of the first form is the one that was run.
 pub told_answers : (words : List (List ℕ)) (contents : List ℕ → Option (List ℕ)) (before after : Option (List Event)) (asks : RunAnswer → List ℕ → Type 0) (read_failed write_failed : Type 0) (answer : RunAnswer)
-    → (answer ≡ Usage → (mode : Mode) (program : List ℕ) → Takes words mode program → ⊥)
-    → ((answer ≡ Usage → ⊥) → Names words (λ mode program. Serves mode (contents program) before after read_failed write_failed answer × asks answer program))
+    → (answer ≡ Usage → IsUsage words) → (answer ≡ Help → Asks words AskHelp) → (answer ≡ Version → Asks words AskVersion)
+    → ((IsOfWords answer → ⊥) → Names words (λ mode program. Serves mode (contents program) before after read_failed write_failed answer × asks answer program))
     → (mode : Mode) (program bytes : List ℕ) (form : FirstForm) → Takes words mode program → contents program ≡ Some bytes → length bytes ≤ 1048576 → IsFirstForm bytes form → AnswersForm mode form before after read_failed write_failed answer
-told_answers words contents before after asks read_failed write_failed answer usage served mode program bytes form taken e within is =
-    let n = served (λ u. usage u mode program taken) in
+told_answers words contents before after asks read_failed write_failed answer usage help version served mode program bytes form taken e within is =
+    let n = served (not_of_words words mode program taken answer usage help version) in
     let one = one_program words n.mode mode n.program program n.taken taken in
     let here : contents n.program ≡ Some bytes = ap contents one.0 ∙ e in
     subst (λ (m : Mode). AnswersForm m form before after read_failed write_failed answer) one.1

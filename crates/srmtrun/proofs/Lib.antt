@@ -1,11 +1,3 @@
-pub mod Digits
-pub mod Blanks
-pub mod Puts
-pub mod Tokens
-pub mod Form
-pub mod ValidCode
 pub mod Limiting
-pub mod CodeMeaning
 pub mod Serving
 pub mod Clauses
-pub mod Growing

@@ -20,20 +20,18 @@ use Rattle.pair_core.specs.Duo.{DuoState, opening_duo}
 use Rattle.pair_core.specs.Fit.{IsPrefix}
 use Rattle.pair_core.proofs.Sounds.{first_events}
 use Rattle.mid_run.specs.Progress.{end_of as progress_end}
-use Rattle.srmtrun.specs.declared.answer.RunAnswer.{RunAnswer}
-use Rattle.srmtrun.specs.declared.answer.RunAnswer.TheVariants.{Alone, Ran as RanBoth, Usage, ReadFault, TooLong, Refused, WriteFault, OutOfMemory}
-use Rattle.srmtrun.specs.declared.first_form.FormRefusal.{FormRefusal}
-use Rattle.srmtrun.specs.declared.first_form.FormRefusal.TheVariants.{Form, Memory}
-use Rattle.srmtrun.specs.declared.first_form.FirstForm.{FirstForm}
-use Rattle.srmtrun.specs.Answer.{answer_from, refused}
+use Rattle.answers.specs.declared.answer.RunAnswer.{RunAnswer}
+use Rattle.answers.specs.declared.answer.RunAnswer.TheVariants.{Alone, Ran as RanBoth, Help, Version, Usage, ReadFault, TooLong, Refused, WriteFault, OutOfMemory}
+use Rattle.first_form.specs.declared.source.FirstForm.{FirstForm}
+use Rattle.srmtrun.specs.Answer.{answer_from}
 use Rattle.srmtrun.specs.declared.words.Mode.{Mode}
 use Rattle.srmtrun.specs.declared.words.Mode.TheVariants.{Single, Alternate}
-use Rattle.srmtrun.specs.FirstForm.{IsFirstForm}
-use Rattle.srmtrun.specs.Lowered.{Implements}
-use Rattle.srmtrun.specs.Meaning.{events_of, end_of}
+use Rattle.first_form.specs.FirstForm.{IsFirstForm}
+use Rattle.first_form.specs.Lowered.{Implements}
+use Rattle.first_form.specs.Meaning.{events_of, end_of}
 use Rattle.srmtrun.specs.declared.still.TheConstants.{LIMITS}
 use Rattle.srmtrun.specs.Still.{AsksFor, RunsBoth}
-use Rattle.srmtrun.specs.Parts.{Serves, StopsRun, RanBySides}
+use Rattle.srmtrun.specs.Parts.{Serves, StopsCompiling, StopsRun, RanBySides}
 
 -- a run that has not ended has written the first events of the whole run
 ended_front : (before : List Event) (r : Run) (fs : List Event) (end : SourceEnd) → preceded before r ≡ Ended end fs → take (length before) fs ≡ before
@@ -59,9 +57,18 @@ prefix_written program limits start end before after is so_far fs over means =
     (length es, so_far.2 ∙ ap (λ xs. option_map (λ told. told ++ xs) before) (sym (run_front program (started program [] limits) end es fs over runs means)))
 
 module _ (told : Option (List ℕ)) (before after : Option (List Event)) (read_failed write_failed : Type 0) (mode : Mode) (bytes : List ℕ) (same : IfSome told (λ t. t ≡ bytes)) (within : length bytes ≤ 1048576) where
-  pub refused_serves : (e : FormRefusal) → (e ≡ Form → (form : FirstForm) → IsFirstForm bytes form → ⊥) → Serves mode told before before read_failed write_failed (refused e)
-  refused_serves Form none = (IfSome_then told same (λ t e. (subst (λ (b : List ℕ). length b ≤ 1048576) (sym e) within, λ form is. none refl form (subst (λ (b : List ℕ). IsFirstForm b form) e is))), refl)
-  refused_serves Memory none = refl
+  -- a source that has no program is told so
+  pub compile_serves : (answer : RunAnswer) → StopsCompiling bytes answer → Serves mode told before before read_failed write_failed answer
+  compile_serves (Refused cause) none = (IfSome_then told same (λ t e. (subst (λ (b : List ℕ). length b ≤ 1048576) (sym e) within, λ form is. none form (subst (λ (b : List ℕ). IsFirstForm b form) e is))), refl)
+  compile_serves OutOfMemory none = refl
+  compile_serves (Alone end) none = absurd none
+  compile_serves (RanBoth ran) none = absurd none
+  compile_serves WriteFault none = absurd none
+  compile_serves ReadFault none = absurd none
+  compile_serves TooLong none = absurd none
+  compile_serves Usage none = absurd none
+  compile_serves Help none = absurd none
+  compile_serves Version none = absurd none
 
   pub run_serves : mode ≡ Single → (limits : Limits) (program : MidProgram) (form : FirstForm) → IsFirstForm bytes form → Implements program form → (r : Result SourceEnd RunAnswer) → IfOk r (λ end. (events : List Event) × Middle program [] limits events end × Appends before after events) → IfErr r (StopsRun program limits before after write_failed) → Serves mode told before after read_failed write_failed (answer_from r)
   run_serves how limits program form is code (Ok end) ok err =
@@ -75,6 +82,8 @@ module _ (told : Option (List ℕ)) (before after : Option (List Event)) (read_f
   run_serves how limits program form is code (Err ReadFault) ok err = absurd err
   run_serves how limits program form is code (Err TooLong) ok err = absurd err
   run_serves how limits program form is code (Err (Refused cause)) ok err = absurd err
+  run_serves how limits program form is code (Err Help) ok err = absurd err
+  run_serves how limits program form is code (Err Version) ok err = absurd err
 
 -- what alternate answers of a core that was started for the program
 pub ran_by_sides : (program pair : MidProgram) (input : List ℕ) (duo : DuoState) (before after : Option (List Event)) (write_failed : Type 0) (ran : Ran) → pair ≡ program → input ≡ [] → duo ≡ opening_duo pair input LIMITS →
@@ -115,21 +124,32 @@ module _ (told : Option (List ℕ)) (before after : Option (List Event)) (read_f
   pub sides_serve : (program : MidProgram) (form : FirstForm) → IsFirstForm bytes form → Implements program form → (ran : Ran) → RanBySides program LIMITS before after write_failed ran → Serves Alternate told before after read_failed write_failed (RanBoth ran)
   sides_serve program form is code ran r = (refl, (form, record { bytes = bytes; told_bytes = same; within = within; is_form = is }, both_runs program form before after write_failed ran code r))
 
-pub refused_asks : (e : FormRefusal) (before after : Option (List (List ℕ))) (name : List ℕ) → Appends before after (name ∷ []) → AsksFor (refused e) before after name
-refused_asks Form before after name asked = asked
-refused_asks Memory before after name asked = (1, asked)
+-- the file was asked for, whatever stopped the compiling, and whatever the run answers
+pub compile_asks : (source : List ℕ) (answer : RunAnswer) (before after : Option (List (List ℕ))) (name : List ℕ) → StopsCompiling source answer → Appends before after (name ∷ []) → AsksFor answer before after name
+compile_asks source (Refused cause) before after name none asked = asked
+compile_asks source OutOfMemory before after name none asked = (1, asked)
+compile_asks source (Alone end) before after name none asked = absurd none
+compile_asks source (RanBoth ran) before after name none asked = absurd none
+compile_asks source WriteFault before after name none asked = absurd none
+compile_asks source ReadFault before after name none asked = absurd none
+compile_asks source TooLong before after name none asked = absurd none
+compile_asks source Usage before after name none asked = absurd none
+compile_asks source Help before after name none asked = absurd none
+compile_asks source Version before after name none asked = absurd none
 
--- the file was asked for, whatever the run answers
-pub run_asks : (r : Result SourceEnd RunAnswer) (before after : Option (List (List ℕ))) (name : List ℕ) → Appends before after (name ∷ []) → AsksFor (answer_from r) before after name
-run_asks (Ok end) before after name asked = asked
-run_asks (Err OutOfMemory) before after name asked = (1, asked)
-run_asks (Err WriteFault) before after name asked = asked
-run_asks (Err (Alone end)) before after name asked = asked
-run_asks (Err (RanBoth ran)) before after name asked = asked
-run_asks (Err Usage) before after name asked = asked
-run_asks (Err ReadFault) before after name asked = asked
-run_asks (Err TooLong) before after name asked = asked
-run_asks (Err (Refused cause)) before after name asked = asked
+module _ (program : MidProgram) (limits : Limits) (before after : Option (List Event)) (write_failed : Type 0) (asked_before asked_after : Option (List (List ℕ))) (name : List ℕ) (asked : Appends asked_before asked_after (name ∷ [])) where
+  pub run_asks : (r : Result SourceEnd RunAnswer) → IfErr r (StopsRun program limits before after write_failed) → AsksFor (answer_from r) asked_before asked_after name
+  run_asks (Ok end) err = asked
+  run_asks (Err OutOfMemory) err = (1, asked)
+  run_asks (Err WriteFault) err = asked
+  run_asks (Err (Alone end)) err = absurd err
+  run_asks (Err (RanBoth ran)) err = absurd err
+  run_asks (Err Usage) err = absurd err
+  run_asks (Err ReadFault) err = absurd err
+  run_asks (Err TooLong) err = absurd err
+  run_asks (Err (Refused cause)) err = absurd err
+  run_asks (Err Help) err = absurd err
+  run_asks (Err Version) err = absurd err
 
 -- a run that has ended from the start has given what the program means
 pub run_finished : (program : MidProgram) (limits : Limits) (start final : Progress) (events : List Event) (end : SourceEnd) → start ≡ At (started program [] limits) → Runs program start events final → progress_end final ≡ Some end → Middle program [] limits events end

@@ -1,10 +1,4 @@
-pub mod FirstForm
-pub mod Place
-pub mod Reading
-pub mod Meaning
-pub mod Lowered
 pub mod Words
 pub mod Answer
 pub mod Still
 pub mod Parts
-pub mod Pairing

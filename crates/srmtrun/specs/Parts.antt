@@ -9,13 +9,16 @@ use Rattle.mid_code.specs.Meaning.{Middle}
 use Rattle.verdicts.specs.declared.verdict.Ran.{Ran}
 use Rattle.verdicts.specs.declared.verdict.Verdict.TheVariants.{WriteFault as FaultVerdict}
 use Rattle.pair_core.specs.Answer.{IsAnswer, FollowsIdeal}
-use Rattle.srmtrun.specs.declared.answer.RunAnswer.{RunAnswer}
-use Rattle.srmtrun.specs.declared.answer.RunAnswer.TheVariants.{Alone, Ran as RanBoth, Usage, ReadFault, TooLong, Refused, WriteFault, OutOfMemory}
+use Rattle.answers.specs.declared.answer.RunAnswer.{RunAnswer}
+use Rattle.answers.specs.declared.answer.RunAnswer.TheVariants.{Alone, Ran as RanBoth, Help, Version, Usage, ReadFault, TooLong, Refused, WriteFault, OutOfMemory}
 use Rattle.srmtrun.specs.declared.words.Mode.{Mode}
 use Rattle.srmtrun.specs.declared.words.Mode.TheVariants.{Single, Alternate}
+use Rattle.first_form.specs.declared.source.FirstForm.{FirstForm}
+use Rattle.first_form.specs.FirstForm.{IsFirstForm}
 use Rattle.srmtrun.specs.Still.{IsNoSource, IsTooLong, RunsToEnd, StopsWriting, RanOnSource}
 
--- What an answer says of the mode, of the program's file and of the events, for each answer but Usage.
+-- What an answer says of the mode, of the program's file and of the events, for each answer but those that the words
+-- alone decide.
 abbrev pub Serves : Mode → Option (List ℕ) → Option (List Event) → Option (List Event) → Type 0 → Type 0 → RunAnswer → Type 0
 Serves mode told before after read_failed write_failed (Alone end) = (mode ≡ Single) × RunsToEnd told before after end
 Serves mode told before after read_failed write_failed (RanBoth ran) = (mode ≡ Alternate) × RanOnSource told before after write_failed ran
@@ -25,12 +28,34 @@ Serves mode told before after read_failed write_failed TooLong = IsTooLong told 
 Serves mode told before after read_failed write_failed (Refused cause) = IsNoSource told × (after ≡ before)
 Serves mode told before after read_failed write_failed OutOfMemory = after ≡ before
 Serves mode told before after read_failed write_failed Usage = ⊥
+Serves mode told before after read_failed write_failed Help = ⊥
+Serves mode told before after read_failed write_failed Version = ⊥
+
+-- why a source has no program
+abbrev pub StopsCompiling : List ℕ → RunAnswer → Type 0
+StopsCompiling source (Refused cause) = (form : FirstForm) → IsFirstForm source form → ⊥
+StopsCompiling source OutOfMemory = Unit {0}
+StopsCompiling source (Alone end) = ⊥
+StopsCompiling source (RanBoth ran) = ⊥
+StopsCompiling source WriteFault = ⊥
+StopsCompiling source ReadFault = ⊥
+StopsCompiling source TooLong = ⊥
+StopsCompiling source Usage = ⊥
+StopsCompiling source Help = ⊥
+StopsCompiling source Version = ⊥
 
 -- why a valid program has not run to its end
 abbrev pub StopsRun : MidProgram → Limits → Option (List Event) → Option (List Event) → Type 0 → RunAnswer → Type 0
 StopsRun program limits before after write_failed WriteFault = write_failed × ((events : List Event) (end : SourceEnd) → Middle program [] limits events end → AppendsPrefix before after events)
 StopsRun program limits before after write_failed OutOfMemory = after ≡ before
-StopsRun program limits before after write_failed _ = ⊥
+StopsRun program limits before after write_failed (Alone end) = ⊥
+StopsRun program limits before after write_failed (RanBoth ran) = ⊥
+StopsRun program limits before after write_failed ReadFault = ⊥
+StopsRun program limits before after write_failed TooLong = ⊥
+StopsRun program limits before after write_failed (Refused cause) = ⊥
+StopsRun program limits before after write_failed Usage = ⊥
+StopsRun program limits before after write_failed Help = ⊥
+StopsRun program limits before after write_failed Version = ⊥
 
 -- what a run of both sides of a program gives
 pub record RanBySides (program : MidProgram) (limits : Limits) (before after : Option (List Event)) (write_failed : Type 0) (ran : Ran) : Type 0 where

@@ -6,15 +6,15 @@ use Rattle.srmt_outside.specs.Told.{Appends, AppendsPrefix}
 use Rattle.verdicts.specs.declared.verdict.Ran.{Ran}
 use Rattle.verdicts.specs.declared.verdict.Verdict.TheVariants.{WriteFault as FaultVerdict}
 use Rattle.pair_core.specs.Answer.{IsAnswer, verdict_as}
-use Rattle.srmtrun.specs.declared.answer.RunAnswer.{RunAnswer}
-use Rattle.srmtrun.specs.declared.answer.RunAnswer.TheVariants.{Alone, Ran as RanBoth, Usage, ReadFault, TooLong, Refused, WriteFault, OutOfMemory}
-use Rattle.srmtrun.specs.declared.first_form.FirstForm.{FirstForm}
+use Rattle.answers.specs.declared.answer.RunAnswer.{RunAnswer}
+use Rattle.answers.specs.declared.answer.RunAnswer.TheVariants.{Alone, Ran as RanBoth, Help, Version, Usage, ReadFault, TooLong, Refused, WriteFault, OutOfMemory}
+use Rattle.first_form.specs.declared.source.FirstForm.{FirstForm}
 use Rattle.srmtrun.specs.declared.still.TheConstants.{LIMITS}
 use Rattle.srmtrun.specs.declared.words.Mode.{Mode}
 use Rattle.srmtrun.specs.declared.words.Mode.TheVariants.{Single, Alternate}
-use Rattle.srmtrun.specs.FirstForm.{IsFirstForm}
-use Rattle.srmtrun.specs.Lowered.{program_of}
-use Rattle.srmtrun.specs.Meaning.{events_of, end_of}
+use Rattle.first_form.specs.FirstForm.{IsFirstForm}
+use Rattle.first_form.specs.Lowered.{program_of}
+use Rattle.first_form.specs.Meaning.{events_of, end_of}
 use Rattle.srmtrun.specs.Words.{Takes}
 
 -- the words are taken, and this holds of the mode and the name of the program
@@ -62,7 +62,15 @@ RanOnSource told before after write_failed ran = (form : FirstForm) × IsSource 
 -- the name is asked for, once; where memory ran out, at most once
 abbrev pub AsksFor : RunAnswer → Option (List (List ℕ)) → Option (List (List ℕ)) → List ℕ → Type 0
 AsksFor OutOfMemory before after name = AppendsPrefix before after (name ∷ [])
-AsksFor _ before after name = Appends before after (name ∷ [])
+AsksFor (Alone end) before after name = Appends before after (name ∷ [])
+AsksFor (RanBoth ran) before after name = Appends before after (name ∷ [])
+AsksFor WriteFault before after name = Appends before after (name ∷ [])
+AsksFor ReadFault before after name = Appends before after (name ∷ [])
+AsksFor TooLong before after name = Appends before after (name ∷ [])
+AsksFor (Refused cause) before after name = Appends before after (name ∷ [])
+AsksFor Help before after name = ⊥
+AsksFor Version before after name = ⊥
+AsksFor Usage before after name = ⊥
 
 -- What an answer says of a program that is told and of this form, in this mode. Each but Alone and
 -- Ran names its cause.
@@ -73,5 +81,7 @@ AnswersForm mode form before after read_failed write_failed WriteFault = (mode �
 AnswersForm mode form before after read_failed write_failed ReadFault = read_failed × (after ≡ before)
 AnswersForm mode form before after read_failed write_failed OutOfMemory = after ≡ before
 AnswersForm mode form before after read_failed write_failed Usage = ⊥
+AnswersForm mode form before after read_failed write_failed Help = ⊥
+AnswersForm mode form before after read_failed write_failed Version = ⊥
 AnswersForm mode form before after read_failed write_failed TooLong = ⊥
 AnswersForm mode form before after read_failed write_failed (Refused cause) = ⊥

@@ -4,6 +4,8 @@ use Rattle.std.specs.List.{starts_with, ends_with}
 use Rattle.std.specs.declared.alloc.Global.{Global}
 use Rattle.srmtrun.specs.declared.words.Mode.{Mode}
 use Rattle.srmtrun.specs.declared.words.Mode.TheVariants.{Single, Alternate}
+use Rattle.srmtrun.specs.declared.words.Question.{Question}
+use Rattle.srmtrun.specs.declared.words.Question.TheVariants.{Help, Version}
 
 -- the bytes of each word
 abbrev pub texts : List (String Global) → List (List ℕ)
@@ -22,3 +24,13 @@ names_source word = not (starts_with nat_eq word (codes "-")) && not (ends_with 
 pub record Takes (words : List (List ℕ)) (mode : Mode) (program : List ℕ) : Type 0 where
   pub order : (words ≡ program ∷ flag_of mode ∷ []) ⊎ (words ≡ flag_of mode ∷ program ∷ [])
   pub source : IsTrue (names_source program)
+
+-- the words are one question, and nothing else
+abbrev pub Asks : List (List ℕ) → Question → Type 0
+Asks words Help = words ≡ codes "--help" ∷ []
+Asks words Version = words ≡ codes "--version" ∷ []
+
+-- the words name no program and a mode, and ask nothing
+pub record IsUsage (words : List (List ℕ)) : Type 0 where
+  pub taken : (mode : Mode) (program : List ℕ) → Takes words mode program → ⊥
+  pub asked : (question : Question) → Asks words question → ⊥

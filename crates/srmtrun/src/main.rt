@@ -3,45 +3,54 @@
 //! Today it runs sources of the first form alone, in which `main` writes constant bytes and returns
 //! a constant, by the machine of one thread or by both sides of its pair in turn. The top call
 //! promises, of any files and any outlet, that a source gives exactly its events and its end, or an
-//! answer with its cause. It stands on `mid_run` and `pair_core`, on the traits of `srmt_outside`,
-//! and on the values of `srmt_base`.
+//! answer with its cause, its status and its lines. It stands on `mid_run` and `pair_core`, on the
+//! sources of `first_form`, on `answers`, and on the traits of `srmt_outside`.
 #![tactic(auto)]
 
-mod answer;
-mod first_form;
-mod lowering;
-mod pairing;
-mod reading;
-mod rest;
 mod still;
 #[cfg(test)]
 mod tests;
 mod words;
 
-use crate::answer::RunAnswer;
 use crate::still::srmtrun_still;
+use crate::words::read_question;
+use answers::{Finished, RunAnswer, finish};
 use srmt_outside::{RealFiles, RealOutlet, RealSink};
 use std::io::ErrorKind;
 use std::process::ExitCode;
 use std::{env, io};
 
 fn main(rt: HostRuntime) -> ExitCode {
-    let status = match run(rt) {
-        Ok(status) => status,
+    let finished = match command_words(rt) {
+        Ok(words) => run(rt, &words),
         // A word is no text, or memory ran out.
-        Err(error) if error.kind() == ErrorKind::InvalidData => RunAnswer::Usage.status(),
-        Err(_) => RunAnswer::OutOfMemory.status(),
+        Err(error) if error.kind() == ErrorKind::InvalidData => fail(rt, RunAnswer::Usage),
+        Err(_) => fail(rt, RunAnswer::OutOfMemory),
     };
-    ExitCode::from(status)
+    ExitCode::from(finished.status)
 }
 
-// The status of a run on the system's files and streams.
-fn run(rt: HostRuntime) -> io::Result<u8> {
+// The words of the command, after the program's own name.
+fn command_words(rt: HostRuntime) -> io::Result<Vec<String>> {
+    Ok(env::args(&rt)?.skip(1).collect(rt.alloc())?)
+}
+
+// A run on the system's files and streams. What is asked of the program itself is its output, and
+// any other line is a note.
+fn run(rt: HostRuntime, words: &[String]) -> Finished {
     let alloc = rt.alloc();
-    let words: Vec<String> = env::args(&rt)?.skip(1).collect(alloc)?;
     let mut files = RealFiles::new(rt);
     let mut outlet = RealOutlet::new(rt.stdout(), rt.stderr());
-    let mut notes = RealSink::new(rt.stderr());
-    let finished = srmtrun_still(alloc, &words, &mut files, &mut outlet, &mut notes);
-    Ok(finished.status)
+    if read_question(words).is_some() {
+        let mut texts = RealSink::new(rt.stdout());
+        srmtrun_still(alloc, words, &mut files, &mut outlet, &mut texts)
+    } else {
+        let mut notes = RealSink::new(rt.stderr());
+        srmtrun_still(alloc, words, &mut files, &mut outlet, &mut notes)
+    }
+}
+
+// The end of a call that has no words.
+fn fail(rt: HostRuntime, answer: RunAnswer) -> Finished {
+    finish(answer, &mut RealSink::new(rt.stderr()))
 }

@@ -1,28 +1,27 @@
-ghost use Rattle.std.specs.Prelude.{◌≡◌, ℕ, ◌+◌, ◌^◌, ◌<◌, ◌≤◌, ◌↔◌, List, [], Some, length, IsTrue, IfOk, IfErr, IfSome, IsErrOf, OnErr};
+ghost use Rattle.std.specs.Prelude.{◌≡◌, ◌≢◌, ℕ, ◌+◌, ◌^◌, ◌<◌, ◌≤◌, ◌↔◌, List, [], Some, true, false, length, IfOk, IfErr, IfSome, IsErrOf, OnErr};
 ghost use Rattle.srmt_base.specs.declared.event.Event.{Event};
 ghost use Rattle.srmt_base.specs.declared.trap.SourceEnd.{SourceEnd};
 ghost use Rattle.srmt_outside.specs.Count.{Rose};
-ghost use Rattle.srmt_outside.specs.Files.{Asks};
-ghost use Rattle.srmt_outside.specs.Told.{Appends};
+ghost use Rattle.srmt_outside.specs.Files.{Asks as AsksFile};
+ghost use Rattle.srmt_outside.specs.Told.{Appends, AppendsPrefix};
 ghost use Rattle.mid_code.specs.Valid.{IsValid};
 ghost use Rattle.mid_code.specs.Meaning.{Middle};
 ghost use Rattle.mid_code.specs.Pairs.{HasSites};
 ghost use Rattle.verdicts.specs.declared.verdict.Ran.{Ran};
-ghost use Rattle.srmtrun.specs.declared.first_form.FirstForm.{FirstForm};
+ghost use Rattle.answers.specs.Answer.{final_status, NeverRan};
+ghost use Rattle.answers.specs.Notes.{lines_of, written};
+ghost use Rattle.first_form.specs.declared.source.FirstForm.{FirstForm};
+ghost use Rattle.first_form.specs.FirstForm.{IsFirstForm};
+ghost use Rattle.first_form.specs.Lowered.{Implements};
 ghost use Rattle.srmtrun.specs.declared.words.Mode.{Mode};
-ghost use Rattle.srmtrun.specs.Answer.{status_of, answer_from, both_from, NeverRan};
-ghost use Rattle.srmtrun.specs.FirstForm.{IsFirstForm};
-ghost use Rattle.srmtrun.specs.Lowered.{Implements};
+ghost use Rattle.srmtrun.specs.Answer.{answer_from, both_from, answer_to, IsOfWords};
 ghost use Rattle.srmtrun.specs.Still.{Names, IsNoSource, IsTooLong, RunsToEnd, RanOnSource, StopsWriting, AsksFor, AnswersForm};
-ghost use Rattle.srmtrun.specs.Parts.{Serves, StopsRun, RanBySides};
-ghost use Rattle.srmtrun.specs.Words.{texts, Takes};
+ghost use Rattle.srmtrun.specs.Parts.{Serves, StopsCompiling, StopsRun, RanBySides};
+ghost use Rattle.srmtrun.specs.Words.{texts, Takes, Asks, IsUsage};
 
-use crate::answer::{CompileRefusal, Finished, RunAnswer};
-use crate::first_form::FormRefusal;
-use crate::lowering::lower_first_form;
-use crate::pairing::pair_of;
-use crate::reading::read_first_form;
-use crate::words::{Mode, read_words};
+use crate::words::{Mode, Question, read_question, read_words};
+use answers::{CompileRefusal, Finished, RunAnswer, finish};
+use first_form::{FormRefusal, compile_first_form, pair_of};
 use mid_code::MidProgram;
 use mid_run::MidRun;
 use pair_core::{Duo, Ran, alternate};
@@ -40,7 +39,7 @@ const LIMITS: Limits = Limits {
     cells: 1_048_576,
 };
 
-/// Runs the program that the words name on one thread. It always returns, and writes no note yet.
+/// Runs the program that the words name in one thread, or answers what they ask. It always returns.
 pub fn srmtrun_still<F: Files, O: Outlet + Send, N: Sink>(
     alloc: Global,
     words: &[String],
@@ -60,8 +59,9 @@ pub fn srmtrun_still<F: Files, O: Outlet + Send, N: Sink>(
         (Rose (O.faults outlet.old) (O.faults outlet.new)) result.answer }
 
     // When each answer comes.
-    ensures usage { (result.answer ≡ RunAnswer.Usage)
-        ↔ ((mode : Mode) (program : List ℕ) → Takes (texts words.now) mode program → ⊥) }
+    ensures usage { (result.answer ≡ RunAnswer.Usage) ↔ IsUsage (texts words.now) }
+    ensures help { (result.answer ≡ RunAnswer.Help) ↔ Asks (texts words.now) Question.Help }
+    ensures version { (result.answer ≡ RunAnswer.Version) ↔ Asks (texts words.now) Question.Version }
     ensures alone { (end : SourceEnd) → result.answer ≡ RunAnswer.Alone end
         → Names (texts words.now) (λ mode program. (mode ≡ Mode.Single)
         × RunsToEnd (F.contents files.old program)
@@ -85,38 +85,40 @@ pub fn srmtrun_still<F: Files, O: Outlet + Send, N: Sink>(
     ensures no_event { NeverRan result.answer → O.events outlet.new ≡ O.events outlet.old }
 
     // What it asks of the files, and what it leaves.
-    ensures asks { (result.answer ≡ RunAnswer.Usage → ⊥) → Names (texts words.now)
+    ensures asks { (IsOfWords result.answer → ⊥) → Names (texts words.now)
         (λ mode. AsksFor result.answer (F.asked files.old) (F.asked files.new)) }
-    ensures asks_nothing { result.answer ≡ RunAnswer.Usage → F.asked files.new ≡ F.asked files.old }
+    ensures asks_nothing { IsOfWords result.answer → F.asked files.new ≡ F.asked files.old }
     ensures contents { F.contents files.new ≡ F.contents files.old }
     ensures read_faults { F.faults files.old ≤ F.faults files.new }
     ensures write_faults { O.faults outlet.old ≤ O.faults outlet.new }
 
-    // The status of the answer, and no note.
-    ensures status { result.status ≡ status_of result.answer }
-    ensures noted { IsTrue result.noted }
-    ensures notes { notes.new ≡ notes.old }
+    // The status of the answer, and its lines, or a first part of them where the notes failed.
+    ensures status { result.status ≡ final_status result.noted result.answer }
+    ensures noted { result.noted ≡ true
+        → Appends (N.bytes notes.old) (N.bytes notes.new) (written (lines_of result.answer)) }
+    ensures unnoted { result.noted ≡ false
+        → AppendsPrefix (N.bytes notes.old) (N.bytes notes.new) (written (lines_of result.answer)) }
+    ensures note_failed { result.noted ≡ false
+        → (lines_of result.answer ≢ []) × Rose (N.faults notes.old) (N.faults notes.new) }
+    ensures note_faults { N.faults notes.old ≤ N.faults notes.new }
 {
     let answer = answer(alloc, words, files, outlet);
-    Finished {
-        status: answer.status(),
-        answer,
-        noted: true,
-    }
+    finish(answer, notes)
 }
 
-/// The answer of a run on one thread.
+/// The answer to the words.
 fn answer<F: Files, O: Outlet>(
     alloc: Global,
     words: &[String],
     files: &mut F,
     outlet: &mut O,
 ) -> RunAnswer
-    ensures usage { (result ≡ RunAnswer.Usage)
-        ↔ ((mode : Mode) (program : List ℕ) → Takes (texts words.now) mode program → ⊥) }
-    ensures unread { result ≡ RunAnswer.Usage → F.asked files.new ≡ F.asked files.old }
-    ensures unwritten { result ≡ RunAnswer.Usage → O.events outlet.new ≡ O.events outlet.old }
-    ensures serves { (result ≡ RunAnswer.Usage → ⊥) → Names (texts words.now)
+    ensures usage { (result ≡ RunAnswer.Usage) ↔ IsUsage (texts words.now) }
+    ensures help { (result ≡ RunAnswer.Help) ↔ Asks (texts words.now) Question.Help }
+    ensures version { (result ≡ RunAnswer.Version) ↔ Asks (texts words.now) Question.Version }
+    ensures unread { IsOfWords result → F.asked files.new ≡ F.asked files.old }
+    ensures unwritten { IsOfWords result → O.events outlet.new ≡ O.events outlet.old }
+    ensures serves { (IsOfWords result → ⊥) → Names (texts words.now)
         (λ mode program. Serves mode (F.contents files.old program)
         (O.events outlet.old) (O.events outlet.new)
         (Rose (F.faults files.old) (F.faults files.new))
@@ -126,9 +128,34 @@ fn answer<F: Files, O: Outlet>(
     ensures read_faults { F.faults files.old ≤ F.faults files.new }
     ensures write_faults { O.faults outlet.old ≤ O.faults outlet.new }
 {
-    let Some((mode, program)) = read_words(words) else {
-        return RunAnswer::Usage;
-    };
+    match read_question(words) {
+        Some(Question::Help) => return RunAnswer::Help,
+        Some(Question::Version) => return RunAnswer::Version,
+        None => {}
+    }
+    match read_words(words) {
+        Some((mode, program)) => serve(alloc, mode, program, files, outlet),
+        None => RunAnswer::Usage,
+    }
+}
+
+/// The answer of a run of a program in this mode.
+fn serve<F: Files, O: Outlet>(
+    alloc: Global,
+    mode: Mode,
+    program: &str,
+    files: &mut F,
+    outlet: &mut O,
+) -> RunAnswer
+    ensures serves { Serves mode (F.contents files.old program.now)
+        (O.events outlet.old) (O.events outlet.new)
+        (Rose (F.faults files.old) (F.faults files.new))
+        (Rose (O.faults outlet.old) (O.faults outlet.new)) result }
+    ensures asks { AsksFor result (F.asked files.old) (F.asked files.new) program.now }
+    ensures contents { F.contents files.new ≡ F.contents files.old }
+    ensures read_faults { F.faults files.old ≤ F.faults files.new }
+    ensures write_faults { O.faults outlet.old ≤ O.faults outlet.new }
+{
     match mode {
         Mode::Single => match single(alloc, program, files, outlet) {
             Ok(end) => RunAnswer::Alone(end),
@@ -194,23 +221,25 @@ fn load<F: Files>(alloc: Global, name: &str, files: &mut F) -> Result<Vec<u8>, F
         → Rose (F.faults files.old) (F.faults files.new) }
     ensures never_falls { F.faults files.old ≤ F.faults files.new }
     ensures contents { F.contents files.new ≡ F.contents files.old }
-    ensures asks { Asks result (F.asked files.old) (F.asked files.new) name.now }
+    ensures asks { AsksFile result (F.asked files.old) (F.asked files.new) name.now }
 {
     let mut source = Vec::new(alloc);
     files.read(alloc, name, &mut source, SOURCE_LIMIT)?;
     Ok(source)
 }
 
-/// The middle code of a source.
-fn compile(alloc: Global, source: &[u8]) -> Result<MidProgram, FormRefusal>
+/// The middle code of a source, or the answer that stopped it.
+fn compile(alloc: Global, source: &[u8]) -> Result<MidProgram, RunAnswer>
     requires { length source.now + 1 < 2 ^ 32 }
     ensures ok { IfOk result
         (λ program. (form : FirstForm) × IsFirstForm source.now form × Implements program form) }
-    ensures none { IsErrOf result FormRefusal.Form
-        → (form : FirstForm) → IsFirstForm source.now form → ⊥ }
+    ensures err { IfErr result (StopsCompiling source.now) }
 {
-    let form = read_first_form(alloc, source)?;
-    Ok(lower_first_form(alloc, &form)?)
+    match compile_first_form(alloc, source) {
+        Ok(program) => Ok(program),
+        Err(FormRefusal::Form) => Err(RunAnswer::Refused(CompileRefusal::Form)),
+        Err(FormRefusal::Memory) => Err(RunAnswer::OutOfMemory),
+    }
 }
 
 /// Runs both sides of a program in turn, to their ends.

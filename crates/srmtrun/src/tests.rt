@@ -1,20 +1,41 @@
-use crate::answer::{CompileRefusal, Finished, RunAnswer};
-use crate::first_form::{Constant, FormRefusal};
-use crate::reading::read_first_form;
+ghost use Rattle.std.specs.Prelude.{◌<◌, length};
+
 use crate::still::srmtrun_still;
+use answers::{CompileRefusal, RunAnswer};
+use first_form::{Constant, read_first_form};
 use pair_core::{Ran, Verdict};
 use srmt_base::{Event, SourceEnd};
-use srmt_outside::{MemFiles, MemOutlet, MemSink, SureFiles};
+use srmt_outside::{MemFiles, MemOutlet, MemSink};
 use std::alloc::{AllocError, Global};
 use std::test::Fail;
 
-mod pairs;
 mod schedules;
 
-const FORM: RunAnswer = RunAnswer::Refused(CompileRefusal::Form);
+const SINGLE: [&str; 2] = ["a.c", "--single"];
+
+const ALTERNATE: [&str; 2] = ["a.c", "--alternate"];
+
+const USAGE: &str = "srmtrun: usage: srmtrun PROGRAM [options]\n";
+
+const FORM: &str = "srmtrun: refused: form\n";
+
+// A call over a file `a.c`, and what is to come of it.
+#[derive(Debug, Drop)]
+struct Case<'a> {
+    words: &'a [&'a str],
+    source: &'a [u8],
+    // The numbers of the calls that fail: of the files, of the outlet and of the notes, or 0.
+    fails: [u64; 3],
+    answer: RunAnswer,
+    status: u8,
+    // How many events there are, and the bytes among them.
+    events: usize,
+    bytes: &'a [u8],
+    notes: &'a str,
+}
 
 // The words of a command.
-fn words(alloc: Global, texts: &[&str]) -> Result<Vec<String>, AllocError> {
+fn owned(alloc: Global, texts: &[&str]) -> Result<Vec<String>, AllocError> {
     let mut words = Vec::new(alloc);
     for text in texts {
         words.push(String::from_str(alloc, text)?)?;
@@ -22,13 +43,35 @@ fn words(alloc: Global, texts: &[&str]) -> Result<Vec<String>, AllocError> {
     Ok(words)
 }
 
-// Runs a source on one thread, from files that never fail.
-fn run(alloc: Global, source: &[u8], outlet: &mut MemOutlet) -> Result<Finished, AllocError> {
-    let mut files = SureFiles::new(alloc);
-    files.give(alloc, "a.c", source)?;
-    let mut notes = MemSink::with_room(alloc, 0)?;
-    let words = words(alloc, &["a.c", "--single"])?;
-    Ok(srmtrun_still(alloc, &words, &mut files, outlet, &mut notes))
+// The bytes among events.
+fn bytes_of(alloc: Global, events: &[Event]) -> Result<Vec<u8>, AllocError> {
+    let mut bytes = Vec::new(alloc);
+    for event in events {
+        if let Event::Byte(byte) = event {
+            bytes.push(*byte)?;
+        }
+    }
+    Ok(bytes)
+}
+
+// Whether the call comes to what it is to come to. All lines are noted where no call of the notes is
+// to fail.
+fn holds(alloc: Global, case: &Case<'_>) -> Result<bool, AllocError> {
+    let [read, write, note] = case.fails;
+    let mut files = MemFiles::new(alloc);
+    files.give(alloc, "a.c", case.source)?;
+    files.fails.push(read)?;
+    let mut outlet = MemOutlet::with_room(alloc, 30_000)?;
+    outlet.fails.push(write)?;
+    let mut notes = MemSink::with_room(alloc, 100)?;
+    notes.fails.push(note)?;
+    let words = owned(alloc, case.words)?;
+    let finished = srmtrun_still(alloc, &words, &mut files, &mut outlet, &mut notes);
+    let bytes = bytes_of(alloc, outlet.events())?;
+    let ended = finished.answer == case.answer && finished.status == case.status;
+    let written = outlet.events().len() == case.events && bytes.as_slice() == case.bytes;
+    let noted = finished.noted == (note == 0) && notes.bytes() == case.notes.as_bytes();
+    Ok(ended && written && noted)
 }
 
 #[test]
@@ -49,20 +92,17 @@ fn sources_run(rt: HostRuntime) -> Result<(), Fail> {
         (b"int main(void){putchar(2147483647);return 1;}", b"\xff", 1),
     ];
     for (source, bytes, status) in rows {
-        let mut outlet = MemOutlet::with_room(rt.alloc(), 3)?;
-        let finished = run(rt.alloc(), source, &mut outlet)?;
-        let want = Finished {
-            status,
+        let case = Case {
+            words: &SINGLE,
+            source,
+            fails: [0, 0, 0],
             answer: RunAnswer::Alone(SourceEnd::Exit(status)),
-            noted: true,
+            status,
+            events: bytes.len() + 1,
+            bytes,
+            notes: "",
         };
-        assert_eq!(rt; finished, want, "{source:?}");
-        let mut events = Vec::new(rt.alloc());
-        for byte in bytes {
-            events.push(Event::Byte(*byte))?;
-        }
-        events.push(Event::Exit(status))?;
-        assert_eq!(rt; outlet.events(), events.as_slice(), "{source:?}");
+        assert!(rt; holds(rt.alloc(), &case)?, "{case:?}");
     }
     Ok(())
 }
@@ -88,97 +128,17 @@ fn other_sources_are_refused(rt: HostRuntime) -> Result<(), Fail> {
         b"int main(void){return 0;putchar(65);}",
     ];
     for source in rows {
-        let mut outlet = MemOutlet::with_room(rt.alloc(), 3)?;
-        let finished = run(rt.alloc(), source, &mut outlet)?;
-        let want = Finished {
+        let case = Case {
+            words: &SINGLE,
+            source,
+            fails: [0, 0, 0],
+            answer: RunAnswer::Refused(CompileRefusal::Form),
             status: 127,
-            answer: FORM,
-            noted: true,
+            events: 0,
+            bytes: b"",
+            notes: FORM,
         };
-        assert_eq!(rt; finished, want, "{source:?}");
-        assert!(rt; outlet.events().is_empty());
-    }
-    Ok(())
-}
-
-#[test]
-fn limits_are_exact(rt: HostRuntime) -> Result<(), Fail> {
-    let alloc = rt.alloc();
-    for (puts, want) in [
-        (20_000, RunAnswer::Alone(SourceEnd::Exit(0))),
-        (20_001, FORM),
-    ] {
-        let mut source = Vec::from_slice(alloc, b"int main(void){")?;
-        for _ in 0..puts {
-            source.extend_from_slice(b"putchar(7);")?;
-        }
-        source.extend_from_slice(b"return 0;}")?;
-        let mut outlet = MemOutlet::with_room(alloc, 30_000)?;
-        assert_eq!(rt; run(alloc, &source, &mut outlet)?.answer, want);
-    }
-    for (len, want) in [
-        (1_048_576, RunAnswer::Alone(SourceEnd::Exit(0))),
-        (1_048_577, RunAnswer::TooLong),
-    ] {
-        let mut source = Vec::from_slice(alloc, b"int main(void){return 0;}")?;
-        source.resize(len, b'\n')?;
-        let mut outlet = MemOutlet::with_room(alloc, 1)?;
-        assert_eq!(rt; run(alloc, &source, &mut outlet)?.answer, want);
-    }
-    Ok(())
-}
-
-#[test]
-fn words_are_taken(rt: HostRuntime) -> Result<(), Fail> {
-    let alloc = rt.alloc();
-    let rows: [(&[&str], u8); 11] = [
-        (&["a.c", "--single"], 7),
-        (&["--single", "a.c"], 7),
-        (&["a.c", "--alternate"], 7),
-        (&["--alternate", "a.c"], 7),
-        (&["--alternate", "--single"], 126),
-        (&[], 126),
-        (&["a.c"], 126),
-        (&["a.c", "--double"], 126),
-        (&["--single", "--single"], 126),
-        (&["a.srm", "--single"], 126),
-        (&["a.c", "--single", "--single"], 126),
-    ];
-    for (texts, status) in rows {
-        let mut files = SureFiles::new(alloc);
-        files.give(alloc, "a.c", b"int main(void){return 7;}")?;
-        let mut outlet = MemOutlet::with_room(alloc, 1)?;
-        let mut notes = MemSink::with_room(alloc, 0)?;
-        let words = words(alloc, texts)?;
-        let finished = srmtrun_still(alloc, &words, &mut files, &mut outlet, &mut notes);
-        assert_eq!(rt; finished.status, status, "{texts:?}");
-    }
-    Ok(())
-}
-
-#[test]
-fn faults_are_answered(rt: HostRuntime) -> Result<(), Fail> {
-    let alloc = rt.alloc();
-    let source = b"int main(void){putchar(65);putchar(66);return 0;}";
-    // The name that is asked for, the calls that fail, the answer, and how many events there are.
-    let rows: [(&str, u64, u64, RunAnswer, usize); 5] = [
-        ("a.c", 0, 0, RunAnswer::Alone(SourceEnd::Exit(0)), 3),
-        ("a.c", 1, 0, RunAnswer::ReadFault, 0),
-        ("b.c", 0, 0, RunAnswer::ReadFault, 0),
-        ("a.c", 0, 1, RunAnswer::WriteFault, 0),
-        ("a.c", 0, 3, RunAnswer::WriteFault, 2),
-    ];
-    for (name, read, write, want, count) in rows {
-        let mut files = MemFiles::new(alloc);
-        files.give(alloc, "a.c", source)?;
-        files.fails.push(read)?;
-        let mut outlet = MemOutlet::with_room(alloc, 3)?;
-        outlet.fails.push(write)?;
-        let mut notes = MemSink::with_room(alloc, 0)?;
-        let words = words(alloc, &[name, "--single"])?;
-        let finished = srmtrun_still(alloc, &words, &mut files, &mut outlet, &mut notes);
-        assert_eq!(rt; finished.answer, want, "{name} {read} {write}");
-        assert_eq!(rt; outlet.events().len(), count, "{name} {read} {write}");
+        assert!(rt; holds(rt.alloc(), &case)?, "{case:?}");
     }
     Ok(())
 }
@@ -200,41 +160,209 @@ fn ran(verdict: Verdict, counts: [u64; 4]) -> RunAnswer {
 // The counts are those of the two versions, taken by hand.
 #[test]
 fn both_sides_run(rt: HostRuntime) -> Result<(), Fail> {
-    let alloc = rt.alloc();
     let none = b"int main(void){return 0;}";
     let one = b"int main(void) {\nputchar(65);\nreturn 0;\n}";
     let two = b"int main(void) {\nputchar(65);\nputchar(66);\nreturn 0;\n}";
-    // The source, the call of the outlet that fails, the status, the answer, and how many events
-    // there are.
-    let rows: [(&[u8], u64, u8, RunAnswer, usize); 4] = [
-        (none, 0, 0, ran(Verdict::Exit(0), [4, 4, 1, 1]), 1),
-        (one, 0, 0, ran(Verdict::Exit(0), [9, 8, 2, 2]), 2),
-        (two, 0, 0, ran(Verdict::Exit(0), [14, 12, 3, 3]), 3),
-        (two, 2, 124, ran(Verdict::WriteFault, [9, 10, 2, 2]), 1),
+    // The source, its bytes, and the counts.
+    let rows: [(&[u8], &[u8], [u64; 4]); 3] = [
+        (none, b"", [4, 4, 1, 1]),
+        (one, b"A", [9, 8, 2, 2]),
+        (two, b"AB", [14, 12, 3, 3]),
     ];
-    for (source, write, status, answer, count) in rows {
-        let mut files = MemFiles::new(alloc);
-        files.give(alloc, "a.c", source)?;
-        let mut outlet = MemOutlet::with_room(alloc, 3)?;
-        outlet.fails.push(write)?;
-        let mut notes = MemSink::with_room(alloc, 0)?;
-        let words = words(alloc, &["a.c", "--alternate"])?;
-        let finished = srmtrun_still(alloc, &words, &mut files, &mut outlet, &mut notes);
-        let want = Finished {
-            status,
-            answer,
-            noted: true,
+    for (source, bytes, counts) in rows {
+        let case = Case {
+            words: &ALTERNATE,
+            source,
+            fails: [0, 0, 0],
+            answer: ran(Verdict::Exit(0), counts),
+            status: 0,
+            events: bytes.len() + 1,
+            bytes,
+            notes: "",
         };
-        assert_eq!(rt; finished, want, "{write}");
-        assert_eq!(rt; outlet.events().len(), count, "{write}");
+        assert!(rt; holds(rt.alloc(), &case)?, "{case:?}");
     }
+    let failed = Case {
+        words: &ALTERNATE,
+        source: two,
+        fails: [0, 2, 0],
+        answer: ran(Verdict::WriteFault, [9, 10, 2, 2]),
+        status: 124,
+        events: 1,
+        bytes: b"A",
+        notes: "srmtrun: fault: output\n",
+    };
+    assert!(rt; holds(rt.alloc(), &failed)?);
+    Ok(())
+}
+
+// Each list of words, and what it is answered with.
+#[test]
+fn words_are_answered(rt: HostRuntime) -> Result<(), Fail> {
+    let about = "srmtrun of Gazqelum\nproved with rattle-kit-13f logic dac8208d650f15bf\n";
+    let one = RunAnswer::Alone(SourceEnd::Exit(7));
+    let both = ran(Verdict::Exit(7), [4, 4, 1, 1]);
+    let usage = RunAnswer::Usage;
+    let rows: [(&[&str], RunAnswer, u8, usize, &str); 18] = [
+        (&["a.c", "--single"], one, 7, 1, ""),
+        (&["--single", "a.c"], one, 7, 1, ""),
+        (&["a.c", "--alternate"], both, 7, 1, ""),
+        (&["--alternate", "a.c"], both, 7, 1, ""),
+        (&["--version"], RunAnswer::Version, 0, 0, about),
+        (&["--alternate", "--single"], usage, 126, 0, USAGE),
+        (&[], usage, 126, 0, USAGE),
+        (&["a.c"], usage, 126, 0, USAGE),
+        (&["a.c", "--double"], usage, 126, 0, USAGE),
+        (&["--single", "--single"], usage, 126, 0, USAGE),
+        (&["a.srm", "--single"], usage, 126, 0, USAGE),
+        (&["a.c", "--single", "--single"], usage, 126, 0, USAGE),
+        (&["a.c", "--single", "--check"], usage, 126, 0, USAGE),
+        (&["--help", "--help"], usage, 126, 0, USAGE),
+        (&["--help", "a.c"], usage, 126, 0, USAGE),
+        (&["a.c", "--help"], usage, 126, 0, USAGE),
+        (&["--version", "--single"], usage, 126, 0, USAGE),
+        (&["-h"], usage, 126, 0, USAGE),
+    ];
+    for (words, answer, status, events, notes) in rows {
+        let case = Case {
+            words,
+            source: b"int main(void){return 7;}",
+            fails: [0, 0, 0],
+            answer,
+            status,
+            events,
+            bytes: b"",
+            notes,
+        };
+        assert!(rt; holds(rt.alloc(), &case)?, "{case:?}");
+    }
+    Ok(())
+}
+
+// A call that fails: of the files, of the outlet, or of the notes. Where a note fails the answer
+// stands, and a first part of its lines is written.
+#[test]
+fn faults_are_answered(rt: HostRuntime) -> Result<(), Fail> {
+    let reading = RunAnswer::ReadFault;
+    let usage = RunAnswer::Usage;
+    let form = RunAnswer::Refused(CompileRefusal::Form);
+    let read = "srmtrun: fault: reading\n";
+    let one: &[u8] = b"int main(void){putchar(65);return 0;}";
+    let output = "srmtrun: fault: output\n";
+    let rows: [(&[&str], &[u8], [u64; 3], RunAnswer, &[u8], &str); 12] = [
+        (&SINGLE, one, [1, 0, 0], reading, b"", read),
+        (&["b.c", "--single"], one, [0, 0, 0], reading, b"", read),
+        (&SINGLE, one, [0, 1, 0], RunAnswer::WriteFault, b"", output),
+        (&SINGLE, one, [0, 2, 0], RunAnswer::WriteFault, b"A", output),
+        (&SINGLE, one, [1, 0, 1], reading, b"", ""),
+        (
+            &SINGLE,
+            one,
+            [1, 0, 2],
+            reading,
+            b"",
+            "srmtrun: fault: reading",
+        ),
+        (&SINGLE, b"", [0, 0, 1], form, b"", ""),
+        (&SINGLE, b"", [0, 0, 2], form, b"", "srmtrun: refused: "),
+        (&SINGLE, b"", [0, 0, 3], form, b"", "srmtrun: refused: form"),
+        (&[], b"", [0, 0, 1], usage, b"", ""),
+        (
+            &["--version"],
+            b"",
+            [0, 0, 3],
+            RunAnswer::Version,
+            b"",
+            "srmtrun of Gazqelum\n",
+        ),
+        (&["--help"], b"", [0, 0, 1], RunAnswer::Help, b"", ""),
+    ];
+    for (words, source, fails, answer, bytes, notes) in rows {
+        let case = Case {
+            words,
+            source,
+            fails,
+            answer,
+            status: 124,
+            events: bytes.len(),
+            bytes,
+            notes,
+        };
+        assert!(rt; holds(rt.alloc(), &case)?, "{case:?}");
+    }
+    Ok(())
+}
+
+// A source with so many statements `putchar(7);`.
+fn sevens(alloc: Global, puts: u32) -> Result<Vec<u8>, AllocError> {
+    let mut source = Vec::from_slice(alloc, b"int main(void){")?;
+    for _ in 0..puts {
+        source.extend_from_slice(b"putchar(7);")?;
+    }
+    source.extend_from_slice(b"return 0;}")?;
+    Ok(source)
+}
+
+// Whether a source runs to its exit with 0, and writes these bytes.
+fn runs(alloc: Global, source: &[u8], bytes: &[u8]) -> Result<bool, AllocError>
+    requires { length bytes.now < 100000 }
+{
+    let case = Case {
+        words: &SINGLE,
+        source,
+        fails: [0, 0, 0],
+        answer: RunAnswer::Alone(SourceEnd::Exit(0)),
+        status: 0,
+        events: bytes.len() + 1,
+        bytes,
+        notes: "",
+    };
+    holds(alloc, &case)
+}
+
+// Whether a source is answered so, and is not run.
+fn stops(
+    alloc: Global,
+    source: &[u8],
+    answer: RunAnswer,
+    status: u8,
+    notes: &str,
+) -> Result<bool, AllocError> {
+    let case = Case {
+        words: &SINGLE,
+        source,
+        fails: [0, 0, 0],
+        answer,
+        status,
+        events: 0,
+        bytes: b"",
+        notes,
+    };
+    holds(alloc, &case)
+}
+
+#[test]
+fn limits_are_exact(rt: HostRuntime) -> Result<(), Fail> {
+    let alloc = rt.alloc();
+    let bytes = [7; 20_000];
+    let most = sevens(alloc, 20_000)?;
+    assert!(rt; runs(alloc, &most, &bytes)?);
+    let more = sevens(alloc, 20_001)?;
+    let form = RunAnswer::Refused(CompileRefusal::Form);
+    assert!(rt; stops(alloc, &more, form, 127, FORM)?);
+    let mut longest = Vec::from_slice(alloc, b"int main(void){return 0;}")?;
+    longest.resize(1_048_576, b'\n')?;
+    assert!(rt; runs(alloc, &longest, b"")?);
+    longest.push(b'\n')?;
+    let long = RunAnswer::TooLong;
+    assert!(rt; stops(alloc, &longest, long, 124, "srmtrun: fault: too long\n")?);
     Ok(())
 }
 
 #[test]
 fn lines_are_kept(rt: HostRuntime) -> Result<(), Fail> {
     let source = b"\nint\nmain\n(void) {\nputchar\n(\n65\n); return\n7\n;\n}\n";
-    let form = read_first_form(rt.alloc(), source)?;
+    let form = read_first_form(rt.alloc(), source).map_err(|_| "no first form")?;
     assert_eq!(rt;
         (form.main_line, form.return_line, form.end_line),
         (3, 8, 11)
@@ -245,6 +373,5 @@ fn lines_are_kept(rt: HostRuntime) -> Result<(), Fail> {
         assert_eq!(rt; put.constant, Constant { value: 65, line: 7 });
     }
     assert_eq!(rt; form.puts.len(), 1);
-    assert!(rt; matches!(read_first_form(rt.alloc(), b"x"), Err(FormRefusal::Form)));
     Ok(())
 }

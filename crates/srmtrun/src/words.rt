@@ -1,6 +1,7 @@
 ghost use Rattle.std.specs.Prelude.{◌≡◌, ℕ, List, IfSome, IfNone};
 ghost use Rattle.srmtrun.specs.declared.words.Mode.{Mode};
-ghost use Rattle.srmtrun.specs.Words.{texts, flag_of, names_source, Takes};
+ghost use Rattle.srmtrun.specs.declared.words.Question.{Question};
+ghost use Rattle.srmtrun.specs.Words.{texts, flag_of, names_source, Takes, Asks};
 
 /// How a program is run.
 #[derive(Clone, Copy, Debug, PartialEq, Eq)]
@@ -9,6 +10,30 @@ pub enum Mode {
     Single,
     /// By both sides in turn: `--alternate`.
     Alternate,
+}
+
+/// What a word that stands alone asks of the program itself.
+#[derive(Clone, Copy, Debug, PartialEq, Eq)]
+pub enum Question {
+    /// How it is used: `--help`.
+    Help,
+    /// Which version it is: `--version`.
+    Version,
+}
+
+/// What the words ask, where they are one question.
+pub fn read_question(words: &[String]) -> Option<Question>
+    ensures some { IfSome result (Asks (texts words.now)) }
+    ensures none { IfNone result ((question : Question) → Asks (texts words.now) question → ⊥) }
+{
+    let [word] = words else {
+        return None;
+    };
+    match word.as_str() {
+        "--help" => Some(Question::Help),
+        "--version" => Some(Question::Version),
+        _ => None,
+    }
 }
 
 /// The mode and the name of the program, where the words are taken.

@@ -1,12 +1,29 @@
 ghost use Rattle.std.specs.Prelude.{◌<◌, length};
 
-use super::pairs::{LIMITS, pair_from};
+use first_form::{compile_first_form, pair_of};
 use mid_code::Pair;
 use pair_core::{Duo, Ran, Verdict, alternate};
-use srmt_base::{Event, Side};
+use srmt_base::{Event, Limits, Side};
 use srmt_outside::MemOutlet;
 use std::alloc::{AllocError, Global};
 use std::test::Fail;
+
+// Room for the entry of `main`.
+const LIMITS: Limits = Limits {
+    turns: 10,
+    depth: 10,
+    cells: 10,
+};
+
+// The pair of a short source of the first form.
+fn pair_from(alloc: Global, source: &[u8]) -> Result<Pair, Fail>
+    requires { length source.now < 1000 }
+{
+    let Ok(program) = compile_first_form(alloc, source) else {
+        return Err(AllocError)?;
+    };
+    Ok(pair_of(alloc, program)?)
+}
 
 // Whose turn it is.
 #[derive(Clone, Copy, Debug)]
@@ -95,33 +112,6 @@ fn gives_the_same(
     let mut outlet = MemOutlet::with_room(alloc, 3)?;
     let numbers = run_in(alloc, pair, order, &mut outlet)?;
     Ok(numbers == Some(expected) && outlet.events() == events)
-}
-
-// The answer of `alternate`, with an outlet whose call of this number fails.
-fn in_turn(alloc: Global, source: &[u8], fails: u64) -> Result<[u64; 5], Fail>
-    requires { length source.now < 1000 }
-{
-    let pair = pair_from(alloc, source)?;
-    let mut outlet = MemOutlet::with_room(alloc, 3)?;
-    outlet.fails.push(fails)?;
-    let mut duo = Duo::start(alloc, &pair, Vec::new(alloc), LIMITS)?;
-    let ran = alternate(&mut duo, &pair, &mut outlet);
-    Ok(told(&ran))
-}
-
-// The counts are those of the two versions, taken by hand.
-#[test]
-fn counts_are_those_of_the_versions(rt: HostRuntime) -> Result<(), Fail> {
-    let one = in_turn(rt.alloc(), b"int main(void){return 0;}", 0)?;
-    assert_eq!(rt; one, [4, 4, 1, 1, 0]);
-    let byte = in_turn(rt.alloc(), b"int main(void){putchar(65);return 0;}", 0)?;
-    assert_eq!(rt; byte, [9, 8, 2, 2, 0]);
-    let two = b"int main(void){putchar(65);putchar(66);return 0;}";
-    let whole = in_turn(rt.alloc(), two, 0)?;
-    assert_eq!(rt; whole, [14, 12, 3, 3, 0]);
-    let failed = in_turn(rt.alloc(), two, 2)?;
-    assert_eq!(rt; failed, [9, 10, 2, 2, 124]);
-    Ok(())
 }
 
 #[test]

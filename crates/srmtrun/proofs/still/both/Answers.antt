@@ -1,23 +1,23 @@
 use Rattle.std.proofs.Common.{◌≡◌, ℕ, List, Err, sym, ap, subst}
 use Rattle.std.proofs.lemmas.Result.{err_from_is_err_and}
-use Rattle.srmtrun.proofs.Serving.{refused_serves, refused_asks, sides_serve}
-use Rattle.srmtrun.specs.FirstForm.{IsFirstForm}
-use Rattle.srmtrun.specs.declared.first_form.FirstForm.{FirstForm}
-use Rattle.srmtrun.specs.declared.first_form.FormRefusal.TheVariants.{Form}
+use Rattle.srmtrun.proofs.Serving.{compile_serves, compile_asks, sides_serve}
+use Rattle.first_form.specs.FirstForm.{IsFirstForm}
+use Rattle.first_form.specs.declared.source.FirstForm.{FirstForm}
+use Rattle.srmtrun.specs.Parts.{StopsCompiling}
 use Rattle.srmtrun.specs.declared.words.Mode.TheVariants.{Alternate}
 use Rattle.srmtrun.proofs.still.both.Goals as goal
 
 pub returns-in_err-program-clause-serves : goal.returns-in_err-program-clause-serves
 returns-in_err-program-clause-serves g c =
     let p = err_from_is_err_and c.from_residual-in_err-program.result c.from_residual-in_err-program.ensures.1 in
-    let none : c.in_err-program.field-0.0 ≡ Form → (form : FirstForm) → IsFirstForm c.in_ok-source.source.items form → ⊥ =
-    λ e form is. c.in_err-program.ensures.none (ap Err e) form (subst (λ (b : List ℕ). IsFirstForm b form) (sym c.deref.ensures.value) is) in
-    rw (p.1, p.2) (refused_serves (g.F.Files.contents c.args.files.now c.args.name.now) (g.O.Outlet.events c.args.outlet.now) (g.O.Outlet.events c.args.outlet.now) _ _ Alternate c.in_ok-source.source.items c.in_ok-source.ensures.told c.in_ok-source.ensures.within c.in_err-program.field-0.0 none)
+    let stops = subst (λ (b : List ℕ). StopsCompiling b c.in_err-program.field-0.0) c.deref.ensures.value c.in_err-program.ensures.err in
+    rw (p.1, p.2) (compile_serves (g.F.Files.contents c.args.files.now c.args.name.now) (g.O.Outlet.events c.args.outlet.now) (g.O.Outlet.events c.args.outlet.now) _ _ Alternate c.in_ok-source.source.items c.in_ok-source.ensures.told c.in_ok-source.ensures.within c.in_err-program.field-0.0 stops)
 
 pub returns-in_err-program-clause-asks : goal.returns-in_err-program-clause-asks
 returns-in_err-program-clause-asks g c =
     let p = err_from_is_err_and c.from_residual-in_err-program.result c.from_residual-in_err-program.ensures.1 in
-    rw (p.1, p.2) (refused_asks _ _ _ _ c.in_ok-source.ensures.asks)
+    let stops = subst (λ (b : List ℕ). StopsCompiling b c.in_err-program.field-0.0) c.deref.ensures.value c.in_err-program.ensures.err in
+    rw (p.1, p.2) (compile_asks c.in_ok-source.source.items _ _ _ _ stops c.in_ok-source.ensures.asks)
 
 pub returns-in_err-run_sides-clause-asks : goal.returns-in_err-run_sides-clause-asks
 returns-in_err-run_sides-clause-asks g c =

@@ -3,9 +3,9 @@ use Rattle.srmtrun.specs.Still.{AsksFor}
 use Rattle.srmtrun.proofs.still.srmtrun_still.Goals as goal
 
 pub returns-clause-told : goal.returns-clause-told
-returns-clause-told g c = told_answers _ _ _ _ (λ answer program. AsksFor answer (g.F.Files.asked c.args.files.now) (g.F.Files.asked c.answer-answer.new.files) program) _ _ _ c.answer-answer.ensures.usage.0 c.answer-answer.ensures.serves
+returns-clause-told g c = rw c.finish.ensures.answer (told_answers _ _ _ _ (λ answer program. AsksFor answer (g.F.Files.asked c.args.files.now) (g.F.Files.asked c.answer-answer.new.files) program) _ _ _ c.answer-answer.ensures.usage.0 c.answer-answer.ensures.help.0 c.answer-answer.ensures.version.0 c.answer-answer.ensures.serves)
 
 pub returns-clause-asks : goal.returns-clause-asks
-returns-clause-asks g c = λ not_usage.
-    let n = c.answer-answer.ensures.serves not_usage in
-    record { mode = n.mode; program = n.program; taken = n.taken; holds = n.holds.1 }
+returns-clause-asks g c = rw c.finish.ensures.answer (λ named.
+    let n = c.answer-answer.ensures.serves named in
+    record { mode = n.mode; program = n.program; taken = n.taken; holds = n.holds.1 })
