@@ -1,11 +1,2 @@
 pub mod Progress
 pub mod View
-pub mod Kept
-pub mod Acts
-pub mod Reaching
-pub mod Statics
-pub mod Outside
-pub mod Binary
-pub mod BinaryView
-pub mod Crossing
-pub mod Groups

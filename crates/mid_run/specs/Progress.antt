@@ -5,6 +5,7 @@ use Rattle.srmt_base.specs.declared.trap.SourceEnd.{SourceEnd}
 use Rattle.mid_code.specs.declared.program.MidProgram.{MidProgram}
 use Rattle.mid_code.specs.Fits.{Fits}
 use Rattle.mid_code.specs.Meaning.{State, On, Ends, step, Comes, Finishes}
+use Rattle.frames.specs.Reaching.{GivesEvent}
 
 -- it goes on from a state, or has ended
 pub data Progress : Type 0 where
@@ -33,3 +34,8 @@ Runs program (At s) events (At next) = Comes program s events next
 Runs program (At s) events (Over end) = Finishes program s events end
 Runs program (Over end) events (At next) = ⊥
 Runs program (Over end) events (Over again) = (again ≡ end) × (events ≡ [])
+
+-- it stands before an instruction that gives an event
+abbrev pub IsBeforeEvent : MidProgram → Progress → Type 0
+IsBeforeEvent program (At s) = GivesEvent (step program s)
+IsBeforeEvent program (Over end) = ⊥

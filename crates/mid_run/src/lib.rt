@@ -1,20 +1,13 @@
 //! The machine that runs a program of middle code on one thread.
 //!
 //! It gives exactly the events and the end that the program means, whatever the outlet is, or says
-//! that the outlet failed. It stands on `mid_code`, whose meaning it is, on the memory of
-//! `cell_store`, and on the outlets of `srmt_outside`. Nothing after the start takes memory.
+//! that the outlet failed. It stands on `mid_code`, whose meaning it is, on the live activations of
+//! `frames`, and on the outlets of `srmt_outside`. Nothing after the start takes memory.
 #![tactic(auto)]
 
-mod act;
-mod binary;
 mod execute;
-mod frames;
-mod memory;
-mod reach;
 mod run;
-mod statics;
 
-pub use binary::{BinaryRun, BinaryStep};
 pub use run::MidRun;
 
 #[cfg(test)]

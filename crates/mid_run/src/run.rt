@@ -1,40 +1,30 @@
-ghost use Rattle.std.specs.Prelude.{◌≡◌, ◌≤◌, ◌<◌, ◌^◌, ℕ, List, [], Option, Some, OnOk, OnErr, IfOk, IfErr, All};
+ghost use Rattle.std.specs.Prelude.{◌≡◌, ◌≤◌, List, Some, OnOk, OnErr, IfOk};
 ghost use Rattle.srmt_base.specs.declared.event.Event.{Event};
 ghost use Rattle.srmt_outside.specs.Count.{Rose};
 ghost use Rattle.srmt_outside.specs.Told.{Appends};
 ghost use Rattle.mid_code.specs.Valid.{IsValid};
 ghost use Rattle.mid_code.specs.Start.{FitLimits};
 ghost use Rattle.mid_code.specs.Meaning.{started};
-ghost use Rattle.mid_run.specs.Reaching.{state_of};
-ghost use Rattle.mid_run.specs.Progress.{Progress, At, FitsIn, Steps, Runs, end_of};
+ghost use Rattle.frames.specs.Reaching.{Counted};
+ghost use Rattle.mid_run.specs.Progress.{Progress, At, FitsIn, Steps, Runs, IsBeforeEvent, end_of};
 
-use crate::execute::{execute, next_line};
-use crate::frames::{Budgets, Frames, Left};
-use crate::statics::begin_statics;
-use cell_store::Store;
+use crate::execute::execute;
+use frames::{Frames, Input, Memory, OPEN_OBJECTS, Room, Running, begin_statics};
 use mid_code::MidProgram;
-use srmt_base::{Limits, SourceEnd};
+use srmt_base::{Budget, Budgets, Limits, Part, SourceEnd};
 use srmt_outside::{Failed, Outlet};
 use std::alloc::{AllocError, Global};
 use std::marker::Model;
 
-/// For how many open objects there is room: each has a cell, and each part has at most 1,048,576.
-pub(crate) const ROOM: u32 = 2_097_152;
-
 /// A run of a program on one thread.
 #[derive(Drop)]
 pub struct MidRun {
-    frames: Frames,
-    protected: Store,
-    binary: Store,
-    input: Vec<u8>,
-    /// The place of the next byte of the input.
-    at: usize,
+    running: Running,
     over: Option<SourceEnd>,
 }
 
 impl Model for MidRun {
-    ghost use Rattle.std.specs.Prelude.{◌≡◌, ◌≤◌, length};
+    ghost use Rattle.std.specs.Prelude.{◌≡◌};
     ghost use Rattle.mid_run.specs.Progress.{Progress};
 
     ghost Value = { Progress };
@@ -43,7 +33,7 @@ impl Model for MidRun {
 
     ghost view = { progress_of };
 
-    ghost invariant = { λ a. (a.at ≤ length a.input.items) × (a.frames.room ≡ 2097152) };
+    ghost invariant = { λ a. a.running.frames.room.objects ≡ 2097152 };
 }
 
 impl MidRun {
@@ -64,41 +54,34 @@ impl MidRun {
             unreachable!();
         };
         let budgets = Budgets {
-            protected: Left {
+            protected: Budget {
                 turns: limits.turns - 1,
                 depth: limits.depth - 1,
             },
-            binary: Left {
+            binary: Budget {
                 turns: limits.turns,
                 depth: limits.depth,
             },
         };
+        let room = Room {
+            activations: 2 * limits.depth,
+            objects: OPEN_OBJECTS,
+        };
         let count = main.kinds.len() as u16;
-        let frames = Frames::start(alloc, program.main, count, budgets, ROOM)?;
-        let protected = begin_statics(alloc, program.main_statics.as_slice(), limits.cells, true)?;
-        let binary = begin_statics(
-            alloc,
-            program.binary_statics.as_slice(),
-            limits.cells,
-            false,
-        )?;
-        Ok(MidRun::at_start(frames, protected, binary, input))
-    }
-
-    /// A run that has made no step.
-    fn at_start(frames: Frames, protected: Store, binary: Store, input: Vec<u8>) -> Self
-        requires { frames.room ≡ 2097152 }
-        ensures run { result ≡ At (state_of frames.machine protected binary input.items) }
-        ensures bytes { All (λ byte. byte < 256) input.items }
-    {
-        MidRun {
+        let frames = Frames::start(alloc, program.main, count, budgets, room)?;
+        let statics = program.main_statics.as_slice();
+        let protected = begin_statics(alloc, statics, limits.cells, Part::Protected)?;
+        let statics = program.binary_statics.as_slice();
+        let binary = begin_statics(alloc, statics, limits.cells, Part::Binary)?;
+        let running = Running {
             frames,
-            protected,
-            binary,
-            input,
-            at: 0,
+            memory: Memory::new(protected, binary),
+            input: Input::new(input),
+        };
+        Ok(MidRun {
+            running,
             over: None,
-        }
+        })
     }
 
     /// Makes one step: one instruction, with its event. After an end it answers the same end.
@@ -114,27 +97,17 @@ impl MidRun {
         ensures fits { FitsIn program.now self.new }
 
         // An event that failed is not written, and its instruction is still to be done.
-        ensures failed { OnErr result (Rose (O.faults outlet.old) (O.faults outlet.new)) }
+        ensures before { OnErr result (IsBeforeEvent program.now self.new) }
         ensures kept { OnErr result (self.new ≡ self.old) }
         ensures unwritten { OnErr result (O.events outlet.new ≡ O.events outlet.old) }
+        ensures counted { Counted result (O.faults outlet.old) (O.faults outlet.new) }
+        ensures failed { OnErr result (Rose (O.faults outlet.old) (O.faults outlet.new)) }
         ensures never_falls { O.faults outlet.old ≤ O.faults outlet.new }
     {
         if let Some(end) = self.over {
             return Ok(Some(end));
         }
-        let Some(line) = next_line(program, &self.frames) else {
-            unreachable!();
-        };
-        let end = execute(
-            &mut self.frames,
-            &mut self.protected,
-            &mut self.binary,
-            self.input.as_slice(),
-            &mut self.at,
-            program,
-            line,
-            outlet,
-        )?;
+        let end = execute(&mut self.running, program, outlet)?;
         self.over = end;
         Ok(end)
     }
@@ -152,6 +125,8 @@ impl MidRun {
         ensures fits { FitsIn program.now self.new }
 
         // It stops where an event failed, before the instruction that is to give it.
+        ensures before { OnErr result (IsBeforeEvent program.now self.new) }
+        ensures counted { Counted result (O.faults outlet.old) (O.faults outlet.new) }
         ensures failed { OnErr result (Rose (O.faults outlet.old) (O.faults outlet.new)) }
         ensures never_falls { O.faults outlet.old ≤ O.faults outlet.new }
     {

@@ -1,6 +1,6 @@
-use Rattle.std.proofs.Common.{◌++◌, ◌∙◌, sym, arith}
+use Rattle.std.proofs.Common.{◌++◌, ◌∙◌, sym}
 use Rattle.srmt_outside.proofs.Told.{Appends-both}
-use Rattle.mid_run.proofs.Running.{runs_on, to_go-step}
+use Rattle.mid_run.proofs.StepsRun.{runs_on, to_go-step}
 use Rattle.mid_run.proofs.run.MidRun.run.Goals as goal
 
 pub returns-in-Some-clause-runs : goal.returns-in-Some-clause-runs
@@ -21,5 +21,5 @@ loop-end-preserved g c =
     record {
       runs = (so_far.0 ++ step.0, runs_on c.args.program.now c.args.self.now c.loop-end.self c.step.new.self so_far.0 step.0 so_far.1 step.1, Appends-both _ _ _ so_far.0 step.0 so_far.2 step.2);
       fits = c.in_ok-end.ensures.fits;
-      faults = omega (arith, c.loop-end.invariant.faults, c.step.ensures.never_falls);
+      faults = c.in_ok-end.ensures.counted ∙ c.loop-end.invariant.faults;
     }

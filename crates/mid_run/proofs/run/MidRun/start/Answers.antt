@@ -1,5 +1,5 @@
 use Rattle.std.proofs.Common.{sym, ap, ◌∙◌, arith}
-use Rattle.mid_run.proofs.Sound.{sound_statics, main_not_none, few_registers, started_is, fits_at_start}
+use Rattle.mid_run.proofs.StartRuns.{sound_statics, main_not_none, few_registers, started_is, fits_at_start}
 use Rattle.mid_run.specs.Progress.{At}
 use Rattle.mid_run.proofs.run.MidRun.start.Goals as goal
 
@@ -17,22 +17,14 @@ start-requires-clause-count c =
     omega (arith, few, c.len-count.ensures)
 
 pub begin_statics-requires-clause-sound : goal.begin_statics-requires-clause-sound
-begin_statics-requires-clause-sound c = rw c.as_slice.ensures ((sound_statics c.args.program.now c.requires.valid).0)
+begin_statics-requires-clause-sound c = rw c.as_slice-statics.ensures ((sound_statics c.args.program.now c.requires.valid).0)
 
 pub begin_statics-requires-2-clause-sound : goal.begin_statics-requires-2-clause-sound
-begin_statics-requires-2-clause-sound c = rw c.as_slice-2.ensures ((sound_statics c.args.program.now c.requires.valid).1)
-
-pub returns-clause-started : goal.returns-clause-started
-returns-clause-started c =
-    let protected = rw c.as_slice.ensures at c.in_ok-protected.ensures in
-    let binary = rw c.as_slice-2.ensures at c.in_ok-binary.ensures in
-    let is = started_is c.args.program.now c.args.limits _ _ _ c.args.input.items c.in-Some.main.now c.len-count.result (sym c.in-Some.ensures) c.len-count.ensures c.in_ok-frames.ensures.machine protected binary in
-    c.at_start.ensures.run ∙ ap At is
+begin_statics-requires-2-clause-sound c = rw c.as_slice-statics-2.ensures ((sound_statics c.args.program.now c.requires.valid).1)
 
 pub returns-clause-fits : goal.returns-clause-fits
 returns-clause-fits c =
-    let protected = rw c.as_slice.ensures at c.in_ok-protected.ensures in
-    let binary = rw c.as_slice-2.ensures at c.in_ok-binary.ensures in
+    let protected = rw c.as_slice-statics.ensures at c.in_ok-protected.ensures in
+    let binary = rw c.as_slice-statics-2.ensures at c.in_ok-binary.ensures in
     let is = started_is c.args.program.now c.args.limits _ _ _ c.args.input.items c.in-Some.main.now c.len-count.result (sym c.in-Some.ensures) c.len-count.ensures c.in_ok-frames.ensures.machine protected binary in
-    let fits = fits_at_start c.args.program.now c.args.limits _ c.args.input.items c.requires.valid c.requires.limits c.at_start.ensures.bytes is in
-    rw c.at_start.ensures.run fits
+    rw (c.new.ensures, c.new-2.ensures.input) (fits_at_start c.args.program.now c.args.limits _ c.args.input.items c.requires.valid c.requires.limits c.new-2.ensures.bytes is)
