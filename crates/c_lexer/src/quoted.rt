@@ -173,13 +173,13 @@ fn quoted_kind(quote: u8, body: &[u8], at: u32) -> Result<TokenKind, LexRefusal>
 }
 
 /// A byte as a `char`, modulo 2^32.
-fn character_value(b: u8) -> u64
+fn character_value(b: u8) -> u32
     ensures { result ≡ tokens.character_value b }
 {
     if b < 128 {
-        u64::from(b)
+        u32::from(b)
     } else {
-        u64::from(b) + (1 << 32) - (1 << 8)
+        u32::from(b) + (u32::MAX - 255)
     }
 }
 

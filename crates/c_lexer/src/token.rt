@@ -24,10 +24,10 @@ pub enum TokenKind {
     Keyword(u8),
     /// An identifier.
     Name,
-    /// An integer constant: `Int` or `UInt`, and the value, below 2^32.
-    Number(Ty, u64),
+    /// An integer constant: `Int` or `UInt`, and the value.
+    Number(Ty, u32),
     /// A character constant, of type `int`: the value modulo 2^32.
-    Character(u64),
+    Character(u32),
     /// A string literal, with its quotes.
     Text,
     /// The place in `PUNCTUATORS`, from 0.

@@ -1,17 +1,10 @@
-pub mod Codes
-pub mod Nodes
 pub mod StatementNodes
-pub mod Spelling
-pub mod Grammar
 pub mod Units
 pub mod Nesting
 pub mod LevelStack
 pub mod Refusals
 pub mod Answers
-pub mod Reading
 pub mod ReadingUnits
-pub mod Outcome
-pub mod Parts
 pub mod UnitOutcome
 pub mod UnitParts
 pub mod ForParts

@@ -2,7 +2,7 @@
 use Rattle.std.specs.Prelude.{ℕ, suc, ◌+◌, ◌-◌, Bool, true, false, not, ◌||◌, ◌&&◌, if◌then◌else◌, ◌==◌, nat_lt, nat_le, List, [], ◌∷◌, Option, Some, None, option_map}
 use Rattle.c_lexer.specs.declared.token.Token.{Token}
 use Rattle.c_parser.specs.declared.nesting.Level.{Level}
-use Rattle.c_parser.specs.Codes.{code, punct, one_of, open_bracket, close_bracket, open_paren, close_paren, open_brace, close_brace, comma, semicolon, sizeof_word, do_word, else_word, for_word, if_word, while_word}
+use Rattle.c_expr.specs.Codes.{code, punct, one_of, open_bracket, close_bracket, open_paren, close_paren, open_brace, close_brace, comma, semicolon, sizeof_word, do_word, else_word, for_word, if_word, while_word}
 
 abbrev pub started : Bool → Level
 started brace = record { brace = brace; operators = 0; words = 0; dos = 0 }

@@ -6,8 +6,8 @@ use Rattle.c_lexer.specs.declared.token.TokenKind.TheVariants.{Keyword, Punct}
 use Rattle.c_tree.specs.declared.unit.Unit.{Unit as TheUnit}
 use Rattle.c_parser.specs.declared.refusal.ParseRefusal.{ParseRefusal}
 use Rattle.c_parser.specs.declared.refusal.ParseRefusal.TheVariants.{Expected, LeftOut, TooDeep, Memory}
-use Rattle.c_parser.specs.Codes.{keyword, one_of, specifier_starts, sizeof_word, do_word, else_word, for_word, if_word, while_word, break_word, continue_word, return_word}
-use Rattle.c_parser.specs.Nodes.{Bytes}
+use Rattle.c_expr.specs.Codes.{keyword, one_of, specifier_starts, sizeof_word, do_word, else_word, for_word, if_word, while_word, break_word, continue_word, return_word}
+use Rattle.c_expr.specs.Nodes.{Bytes}
 use Rattle.c_parser.specs.Units.{Derives}
 use Rattle.c_parser.specs.Nesting.{first_too_deep}
 

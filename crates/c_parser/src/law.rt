@@ -2,18 +2,11 @@
 
 ghost use Rattle.std.specs.Prelude.{◌≡◌, ℕ, ◌++◌, List, None};
 ghost use Rattle.c_lexer.specs.declared.token.Token.{Token};
-ghost use Rattle.c_tree.specs.declared.expression.Expr.{Expr};
 ghost use Rattle.c_tree.specs.declared.unit.Unit.{Unit as TheUnit};
-ghost use Rattle.c_parser.specs.Grammar.{DerivesExpression};
 ghost use Rattle.c_parser.specs.Nesting.{first_too_deep};
 ghost use Rattle.c_parser.specs.Refusals.{BeginsUnit, Refuses};
 ghost use Rattle.c_parser.specs.Units.{Derives};
 ghost use Rattle.c_parser.specs.declared.refusal.ParseRefusal.{ParseRefusal};
-
-/// Some tokens are at most one expression.
-pub fn one_expression()
-    ensures { (tokens : List Token) (src : List ℕ) (a b : Expr) → DerivesExpression tokens src a → DerivesExpression tokens src b → a ≡ b }
-{}
 
 /// Some tokens are at most one unit.
 pub fn one_unit()

@@ -4,11 +4,11 @@ ghost use Rattle.std.specs.Prelude.{◌≡◌, false, ◌+◌, ◌<◌, ◌≤�
 ghost use Rattle.c_parser.specs.Nesting as spec;
 ghost use Rattle.c_parser.specs.LevelStack.{levels_of, IsCounted, IsTame, AreTame};
 
-use crate::codes::{
+use c_expr::codes::{
     CLOSE_BRACE, CLOSE_BRACKET, CLOSE_PAREN, COMMA, DO, ELSE, FOR, IF, OPEN_BRACE, OPEN_BRACKET,
     OPEN_PAREN, PUNCT, SEMICOLON, SIZEOF, WHILE, code,
 };
-use crate::tokens::one_of;
+use c_expr::tokens::one_of;
 use c_lexer::Token;
 use std::alloc::{AllocError, Global};
 
