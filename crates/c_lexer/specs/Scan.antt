@@ -1,6 +1,6 @@
 -- What each function of the code finds at the front of the bytes, list to list. No public clause rests on these
 -- functions: the laws in proofs/ tie them to the sets of `Tokens`, in both directions.
-use Rattle.std.specs.Prelude.{ℕ, suc, zero, ◌+◌, ◌-◌, Bool, true, false, not, ◌&&◌, if◌then◌else◌, ◌==◌, nat_lt, nat_le, List, [], ◌∷◌, length, take, drop, slice_index, Option, Some, None, option_map, option_and_then, unwrap_or, ok_or, Result, Ok, Err, codes}
+use Rattle.std.specs.Prelude.{ℕ, suc, zero, ◌+◌, ◌-◌, Bool, true, false, not, ◌&&◌, ◌||◌, if◌then◌else◌, ◌==◌, nat_lt, nat_le, List, [], ◌∷◌, length, take, drop, slice_index, Option, Some, None, option_map, option_and_then, unwrap_or, ok_or, Result, Ok, Err, codes}
 use Rattle.std.specs.Char.{is_ascii_digit}
 use Rattle.std.specs.List.{prefix_len}
 use Rattle.c_lexer.specs.declared.token.Token.{Token}
@@ -127,6 +127,10 @@ quoted at bytes = closed at (slice_index bytes 0) (drop 1 bytes) (closing (slice
 -- the punctuator of a length at the front
 unfoldable pub punctuator_of_length : ℕ → Bytes → Option (ℕ × ℕ)
 punctuator_of_length len bytes = if nat_le len (length bytes) then option_map (λ place. (place, len)) (punctuator_place (take len bytes)) else None
+
+-- the second bytes of punctuators
+abbrev pub is_second : ℕ → Bool
+is_second b = b == 61 || b == 62 || b == 60 || b == 43 || b == 45 || b == 38 || b == 124 || b == 46
 
 abbrev pub or_else : Option (ℕ × ℕ) → Option (ℕ × ℕ) → Option (ℕ × ℕ)
 or_else None other = other

@@ -197,7 +197,7 @@ module _ (src : Bytes) (n d : ℕ) (le : suc d ≤ n) (S : Spelling (Stmt × Boo
   again_for : (b : Bool) → Again (suc d) (For_of b) (for_statement E D n stmt) (Tail b)
   unfolding for_statement
   again_for b = again_after (λ t. again_behind (λ _. again_seq {P = Anything} again_for_start (λ start. clear_any) (λ start. again_seq until_semicolon (λ x. clear_on semicolon _) (λ x. again_behind (λ _.
-      again_seq until_paren (λ step. clear_on close_paren _) (λ step. again_behind (λ _. again_seq (h b) (λ body. tail_is b (for_stmt t.line (for_head start x step) body)) (λ body. again_is d (for_stmt t.line start x step body)))))))))
+      again_seq until_paren (λ step. clear_on close_paren _) (λ step. again_behind (λ _. again_seq (h b) (λ body. tail_is b (for_stmt t.line (for_head start x step) body)) (λ body. again_is d (for_stmt t.line (for_head start x step) body)))))))))
 
   abbrev Else_of : Bool → Spelling (Option Stmt)
   Else_of b = Sequence (One else_word) (λ _. Sequence (Open b S) (λ x. Is (Some x)))
