@@ -12,7 +12,7 @@ use Rattle.c_lexer.specs.Scan.{punctuator_of_length, punctuator, or_else, is_sec
 use Rattle.c_lexer.proofs.Choices.{chosen, map_some}
 
 -- what is true of each entry of a table is true of one that is found
-at_place : {X : Type 0} (p q : X → Bool) (xs : List X) → position_or_len p xs < length xs → list_all q xs ≡ true → (x : X) × (p x ≡ true) × (q x ≡ true)
+pub at_place : {X : Type 0} (p q : X → Bool) (xs : List X) → position_or_len p xs < length xs → list_all q xs ≡ true → (x : X) × (p x ≡ true) × (q x ≡ true)
 at_place {X = X} p q [] h e = absurd (omega arith)
 at_place {X = X} p q (x ∷ xs) h e =
     let parts = and_parts (q x) (list_all q xs) e in
@@ -23,7 +23,7 @@ at_place {X = X} p q (x ∷ xs) h e =
     by_test true f k g later = (x, f, g)
     by_test false f k g later = later (omega arith)
 
-place_fits : {X : Type 0} (p : X → Bool) (xs : List X) (i : ℕ) → position p xs ≡ Some i → position_or_len p xs < length xs
+pub place_fits : {X : Type 0} (p : X → Bool) (xs : List X) (i : ℕ) → position p xs ≡ Some i → position_or_len p xs < length xs
 place_fits p xs i e =
     elim (chosen (ltb (position_or_len p xs) (length xs)) (Some (position_or_len p xs)) None (Some i) e) as (λ _. position_or_len p xs < length xs)
     [ inl w ↦ ltb-true (position_or_len p xs) (length xs) w.0 | inr w ↦ absurd (let t = w.1 in cc) ]

@@ -10,7 +10,7 @@ use Rattle.c_lexer.specs.declared.token.LexRefusal.{LexRefusal}
 use Rattle.c_lexer.specs.declared.token.LexRefusal.TheVariants.{BadByte, OpenComment, OpenText, BadText, BadNumber, LiteralTooWide, Directive}
 use Rattle.c_lexer.specs.declared.piece.Piece.{Piece}
 use Rattle.c_lexer.specs.declared.piece.Piece.TheVariants.{Blank, LineComment, BlockComment, Include, Lexeme}
-use Rattle.c_lexer.specs.Tokens.{Bytes, begins_with, is_blank, is_line_feed, is_blank_in_line, begins_name, continues_name, keyword_place, punctuator_place, continues_number, is_constant, constant_type, constant_value, is_quote, decoded, one_byte, character_value}
+use Rattle.c_lexer.specs.Tokens.{Bytes, begins_with, is_blank, is_line_feed, is_blank_in_line, begins_name, continues_name, keyword_place, punctuator_place, continues_number, is_constant, constant_type, constant_value, is_quote, decoded, one_byte, character_value, line_feeds}
 
 -- a piece, and how many bytes it has
 abbrev pub Found : Type 0
@@ -155,6 +155,14 @@ front first at bytes =
     else (if begins_with (codes "//") bytes then Ok (LineComment, line_len bytes)
     else (if begins_with (codes "/*") bytes then block_comment at bytes
     else (if first && b == 35 then directive at bytes else mark at bytes))))))
+
+-- the line feeds of a piece, of which a line comment and a token have none
+abbrev pub feeds_of : Piece → Bytes → ℕ
+feeds_of Blank word = line_feeds word
+feeds_of LineComment word = 0
+feeds_of BlockComment word = line_feeds word
+feeds_of Include word = line_feeds word
+feeds_of (Lexeme kind) word = 0
 
 -- the token that a piece is, if it is one
 abbrev pub token_at : Piece → ℕ → ℕ → ℕ → List Token
