@@ -1,13 +1,16 @@
 -- The levels of operators, read one after the other behind one operand.
-use Rattle.std.proofs.Common.{◌≡◌, ℕ, zero, suc, List, Result, Ok, Err, arith, refl, sym, ◌∙◌, ap, ◌-◌, ◌+◌, ◌<◌}
+use Rattle.std.proofs.Common.{◌≡◌, ℕ, zero, suc, Bool, true, false, eqb, ◌||◌, List, [], ◌∷◌, length, Result, Ok, Err, arith, refl, sym, ◌∙◌, ap, ◌-◌, ◌+◌, ◌<◌}
+use Rattle.std.specs.List.{list_all}
+use Rattle.std.proofs.lemmas.Bool.{and_parts, eqb-true, false≢true}
 use Rattle.c_lexer.specs.declared.token.Token.{Token}
 use Rattle.c_tree.specs.declared.expression.Expr.{Expr}
 use Rattle.c_tree.specs.declared.expression.Declarator.{Declarator}
 use Rattle.c_expr.specs.declared.start.Start.{Start}
 use Rattle.c_expr.specs.declared.start.Naming.{Naming}
+use Rattle.c_expr.specs.Codes.{code, one_of, kinds, binary_operators, is_among_binary}
 use Rattle.c_expr.specs.Nodes.{Bytes}
-use Rattle.c_expr.specs.Reading.{Reader, and_then, level, cast}
-use Rattle.c_expr.specs.Parts.{operations, ladder, climbed}
+use Rattle.c_expr.specs.Reading.{Reader, and_then, begins, grown_from, operated, operation, level, cast}
+use Rattle.c_expr.specs.Parts.{may_go_on, operations, ladder, climbed}
 
 Found : Type 0
 Found = Result (Expr × List Token) ℕ
@@ -57,3 +60,43 @@ module _ (src : Bytes) (expr : Start → Reader Expr) (declarator : Naming → R
   ladder_refused end k x w left l e =
       let m : end - k ≡ suc (end - (k + 1)) = omega arith in
       ap (λ n. ladder src expr declarator n k x w) m ∙ refusal _ k x w left e
+
+-- ---- where no operator follows an operand
+
+all_among : (k : ℕ) → list_all is_among_binary (kinds (binary_operators k)) ≡ true
+unfolding binary_operators
+all_among zero = refl
+all_among (suc zero) = refl
+all_among (suc (suc zero)) = refl
+all_among (suc (suc (suc zero))) = refl
+all_among (suc (suc (suc (suc zero)))) = refl
+all_among (suc (suc (suc (suc (suc zero))))) = refl
+all_among (suc (suc (suc (suc (suc (suc zero)))))) = refl
+all_among (suc (suc (suc (suc (suc (suc (suc zero))))))) = refl
+all_among (suc (suc (suc (suc (suc (suc (suc (suc zero)))))))) = refl
+all_among (suc (suc (suc (suc (suc (suc (suc (suc (suc zero))))))))) = refl
+all_among (suc (suc (suc (suc (suc (suc (suc (suc (suc (suc more)))))))))) = refl
+
+none_of : (p : ℕ → Bool) (ks : List ℕ) (c : ℕ) → list_all p ks ≡ true → p c ≡ false → one_of ks c ≡ false
+none_of p [] c h e = refl
+none_of p (k ∷ ks) c h e =
+    let parts = and_parts (p k) (list_all p ks) h in
+    by_test (eqb c k) refl parts.0 (none_of p ks c parts.1 e)
+  where
+    by_test : (t : Bool) → eqb c k ≡ t → p k ≡ true → one_of ks c ≡ false → (eqb c k || one_of ks c) ≡ false
+    by_test true f g later = absurd (false≢true (sym e ∙ ap p (eqb-true c k f) ∙ g))
+    by_test false f g later = rw f later
+
+module _ (src : Bytes) (expr : Start → Reader Expr) (declarator : Naming → Reader Declarator) where
+  nothing_more : (k : ℕ) (x : Expr) (w : List Token) → may_go_on w ≡ false → operations src expr declarator k x w ≡ Ok (x, w)
+  unfolding grown_from begins
+  nothing_more k x [] e = refl
+  nothing_more k x (t ∷ rest) e = rw (none_of is_among_binary (kinds (binary_operators k)) (code t) (all_among k) e) refl
+
+  ladder_ends : (n k : ℕ) (x : Expr) (w : List Token) → may_go_on w ≡ false → ladder src expr declarator n k x w ≡ Ok (x, w)
+  unfolding ladder
+  ladder_ends zero k x w e = refl
+  ladder_ends (suc n) k x w e = ap (λ r. and_then r (λ y. ladder src expr declarator n (k + 1) y)) (nothing_more k x w e) ∙ ladder_ends n (k + 1) x w e
+
+  pub ends_here : (n : ℕ) (x : Expr) (w : List Token) → may_go_on w ≡ false → ladder src expr declarator n 0 x w ≡ Ok (x, w)
+  ends_here n x w e = ladder_ends n 0 x w e

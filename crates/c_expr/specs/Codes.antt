@@ -1,5 +1,5 @@
 -- The kinds of tokens by number, and the tables of operators and words (C11 6.4.1, 6.4.6, 6.5, 6.7).
-use Rattle.std.specs.Prelude.{ℕ, zero, suc, ◌+◌, Bool, true, false, ◌||◌, if◌then◌else◌, ◌==◌, List, [], ◌∷◌, Option, Some, None, option_map}
+use Rattle.std.specs.Prelude.{ℕ, zero, suc, ◌+◌, Bool, true, false, nat_le, ◌&&◌, ◌||◌, if◌then◌else◌, ◌==◌, List, [], ◌∷◌, Option, Some, None, option_map}
 use Rattle.srmt_base.specs.declared.op.Op.{Op}
 use Rattle.srmt_base.specs.declared.op.Op.TheVariants as o
 use Rattle.c_lexer.specs.declared.token.Token.{Token}
@@ -151,6 +151,10 @@ binary_operators (suc (suc (suc (suc (suc (suc (suc (suc (suc (suc more)))))))))
 -- how many levels there are
 abbrev pub levels : ℕ
 levels = 10
+
+-- a kind from `&` to `||`, among which all of these operators are
+abbrev pub is_among_binary : ℕ → Bool
+is_among_binary k = nat_le (punct 10) k && nat_le k (punct 29)
 
 -- The operators of assignment, of which all but the first are compound (C11 6.5.16).
 abbrev pub assignment_operators : Table (Option CompoundOp)

@@ -5,3 +5,4 @@ pub mod Grammar
 pub mod Reading
 pub mod Outcome
 pub mod Parts
+pub mod Spellings

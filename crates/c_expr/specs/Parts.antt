@@ -1,5 +1,5 @@
 -- Parts of lines of the grammar, each of which is a function of its own.
-use Rattle.std.specs.Prelude.{ℕ, zero, suc, ◌+◌, Bool, not, ◌&&◌, List, [], ◌∷◌, ◌++◌, Option, Some, None}
+use Rattle.std.specs.Prelude.{ℕ, zero, suc, ◌+◌, Bool, false, not, ◌&&◌, List, [], ◌∷◌, ◌++◌, Option, Some, None}
 use Rattle.c_lexer.specs.declared.token.Token.{Token}
 use Rattle.c_tree.specs.declared.expression.Expr.{Expr}
 use Rattle.c_tree.specs.declared.expression.Declarator.{Declarator}
@@ -7,7 +7,7 @@ use Rattle.c_tree.specs.declared.expression.Parameter.{Parameter}
 use Rattle.c_expr.specs.declared.start.Start.{Start}
 use Rattle.c_expr.specs.declared.start.Start.TheVariants as at
 use Rattle.c_expr.specs.declared.start.Naming.{Naming}
-use Rattle.c_expr.specs.Codes.{kinds, binary_operators, name, comma, text, close_bracket, close_paren, postfix_operators}
+use Rattle.c_expr.specs.Codes.{code, kinds, binary_operators, is_among_binary, name, comma, text, close_bracket, close_paren, postfix_operators}
 use Rattle.c_expr.specs.Nodes.{Bytes, with_operand, name_node, text_of, postfix_node, sizeof_expr_node, sizeof_type_node}
 use Rattle.c_expr.specs.Reading.{Reader, one, grown, sign, ◌>>=◌, ◌<$>◌, pure, choose, begins, begins_type, in_parens, type_name, parameters, may_end, core_starts, cast, assignment, behind_comma, level, operated, operation}
 
@@ -15,6 +15,11 @@ use Rattle.c_expr.specs.Reading.{Reader, one, grown, sign, ◌>>=◌, ◌<$>◌,
 abbrev pub behind : List Token → List Token
 behind [] = []
 behind (t ∷ rest) = rest
+
+-- an operator between two operands may be first
+abbrev pub may_go_on : List Token → Bool
+may_go_on [] = false
+may_go_on (t ∷ rest) = is_among_binary (code t)
 
 -- a part that makes a longer expression of the one before it, with this
 abbrev pub applied : Reader (Expr → Expr) → Expr → Reader Expr

@@ -119,6 +119,13 @@ pub fn binary_operators(level: u8) -> Table<BinaryOp>
 /// How many levels of operators between two operands there are.
 pub const LEVELS: u8 = 10;
 
+/// Whether a kind lies from `&` to `||`, as all operators between two operands do.
+pub fn is_among_binary(kind: u16) -> bool
+    ensures { result ≡ spec.is_among_binary kind }
+{
+    PUNCT + 10 <= kind && kind <= PUNCT + 29
+}
+
 /// The operators of assignment, of which all but the first are compound (C11 6.5.16).
 pub const ASSIGNMENT_OPERATORS: [(u16, Option<CompoundOp>); 11] = [
     (PUNCT + 34, None),

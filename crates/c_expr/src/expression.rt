@@ -16,7 +16,7 @@ use crate::fault::{Fault, Read};
 use crate::grammar::Grammar;
 use crate::leaf::{spelling, text_of};
 use crate::start::{Naming, Start};
-use crate::tokens::{begins, begins_in, begins_type, one, sign};
+use crate::tokens::{begins, begins_in, begins_type, may_go_on, one, one_text, sign};
 use c_lexer::{Token, TokenKind};
 use c_tree::{BinaryOp, CompoundOp, Declarator, Expr, ExprNode, PrefixOp, TypeName};
 use sqlite_items::{Boxed, Items};
@@ -75,7 +75,7 @@ fn text_bytes_behind<'t>(
         if !begins(&[TEXT], rest) {
             break;
         }
-        let (text, more) = one(TEXT, rest)?;
+        let (text, more) = one_text(rest)?;
         let next = text_of(alloc, src, text)?;
         bytes.append(next)?;
         rest = more;
@@ -137,7 +137,7 @@ where
     fn texts<'t>(&self, tokens: &'t [Token]) -> Read<'t, Boxed<Expr>>
         ensures { Gives seen result (at_depth reading.texts self.now.src.now self.now.depth tokens.now) }
     {
-        let (first, rest) = one(TEXT, tokens)?;
+        let (first, rest) = one_text(tokens)?;
         let bytes = text_of(self.alloc, self.src, first)?;
         let (bytes, rest) = text_bytes_behind(self.alloc, self.src, bytes, rest)?;
         let text = at_line(self.alloc, first.line, ExprNode::Text(bytes))?;
@@ -390,7 +390,12 @@ where
 
     /// An operator of a level with its right operand behind a left operand, with it.
     #[cycle(level)]
-    fn operation<'t>(&self, level: u8, left: Boxed<Expr>, tokens: &'t [Token]) -> Read<'t, Boxed<Expr>>
+    fn operation<'t>(
+        &self,
+        level: u8,
+        left: Boxed<Expr>,
+        tokens: &'t [Token],
+    ) -> Read<'t, Boxed<Expr>>
         requires { Leads E.Fn D.Fn self.now.expr self.now.declarator self.now.src.now self.now.depth }
         ensures { Gives seen result (at_depth parts.operation_behind self.now.src.now self.now.depth level left tokens.now) }
     {
@@ -404,7 +409,12 @@ where
     /// The operators of a level with their right operands behind a left operand, with it.
     #[cycle(level)]
     #[tactic(auto, unfolding(crate::specs::Reading::grown_from))]
-    fn operations<'t>(&self, level: u8, left: Boxed<Expr>, tokens: &'t [Token]) -> Read<'t, Boxed<Expr>>
+    fn operations<'t>(
+        &self,
+        level: u8,
+        left: Boxed<Expr>,
+        tokens: &'t [Token],
+    ) -> Read<'t, Boxed<Expr>>
         requires { Leads E.Fn D.Fn self.now.expr self.now.declarator self.now.src.now self.now.depth }
         ensures { Gives seen result (at_depth parts.operations self.now.src.now self.now.depth level left tokens.now) }
     {
@@ -424,7 +434,12 @@ where
     /// The operators of the levels below a number behind a left operand, with it, one level after the other.
     #[cycle(level)]
     #[tactic(auto, unfolding(crate::specs::Parts::ladder))]
-    fn ladder<'t>(&self, levels: u8, left: Boxed<Expr>, tokens: &'t [Token]) -> Read<'t, Boxed<Expr>>
+    fn ladder<'t>(
+        &self,
+        levels: u8,
+        left: Boxed<Expr>,
+        tokens: &'t [Token],
+    ) -> Read<'t, Boxed<Expr>>
         requires { Leads E.Fn D.Fn self.now.expr self.now.declarator self.now.src.now self.now.depth }
         ensures { Gives seen result (at_depth parts.ladder self.now.src.now self.now.depth levels 0 left tokens.now) }
     {
@@ -440,11 +455,15 @@ where
 
     /// An operand, and behind it the operators of the levels below a number with their right operands.
     #[cycle(level)]
+    #[tactic(auto, using(crate::proofs::Ladder::ends_here))]
     fn climbed<'t>(&self, levels: u8, tokens: &'t [Token]) -> Read<'t, Boxed<Expr>>
         requires { Leads E.Fn D.Fn self.now.expr self.now.declarator self.now.src.now self.now.depth }
         ensures { Gives seen result (at_depth parts.climbed self.now.src.now self.now.depth levels tokens.now) }
     {
         let (first, rest) = self.cast(tokens)?;
+        if !may_go_on(rest) {
+            return Ok((first, rest));
+        }
         let (expr, rest) = self.ladder(levels, first, rest)?;
         Ok((expr, rest))
     }

@@ -3,7 +3,7 @@
 ghost use Rattle.std.specs.Prelude.{◌≡◌, ◌≤◌, ◌-◌, IfOk, take, drop, length};
 ghost use Rattle.c_expr.specs.Nodes as nodes;
 
-use c_lexer::{Token, text};
+use c_lexer::{Token, TokenKind, text};
 use sqlite_items::Items;
 use std::alloc::{AllocError, Global};
 
@@ -28,6 +28,7 @@ pub fn spelling(alloc: Global, src: &[u8], token: Token) -> Result<Items<u8>, Al
 
 /// The bytes of a text between its quotes, with the escapes read.
 pub fn text_of(alloc: Global, src: &[u8], token: Token) -> Result<Items<u8>, AllocError>
+    requires { token.kind ≡ TokenKind.Text }
     ensures { IfOk result (λ bytes. bytes ≡ nodes.text_of src.now token) }
 {
     let part = part(src, token);

@@ -19,5 +19,5 @@ pub mod tokens;
 pub use declarator::{first_line, specifiers};
 pub use fault::{Fault, Read};
 pub use hub::{declarator_at, expr_at};
-pub use law::one_expression;
+pub use law::{one_expression, spellings};
 pub use start::{Naming, Start};

@@ -1,15 +1,15 @@
 //! What some tokens begin with.
 
-ghost use Rattle.std.specs.Prelude.{◌≡◌, ◌≤◌, length, Ok};
+ghost use Rattle.std.specs.Prelude.{◌≡◌, ◌≤◌, length, IfOk, Ok};
 ghost use Rattle.c_expr.specs.Codes as codes;
 ghost use Rattle.c_expr.specs.Reading as reading;
 ghost use Rattle.c_expr.specs.Parts as parts;
 ghost use Rattle.c_expr.specs.Spelling.{line_at};
 ghost use Rattle.c_expr.specs.Outcome.{Gives, seen};
 
-use crate::codes::{OPEN_PAREN, PARAMETER_STARTS, SPECIFIER_WORDS, code};
+use crate::codes::{OPEN_PAREN, PARAMETER_STARTS, SPECIFIER_WORDS, code, is_among_binary};
 use crate::fault::{Fault, Read};
-use c_lexer::Token;
+use c_lexer::{Token, TokenKind};
 
 /// Whether a kind is one of these.
 pub fn one_of(kinds: &[u16], kind: u16) -> bool
@@ -61,6 +61,16 @@ pub fn begins_in<A: Copy>(table: &[(u16, A)], tokens: &[Token]) -> bool
     }
 }
 
+/// Whether an operator between two operands may be first.
+pub fn may_go_on(tokens: &[Token]) -> bool
+    ensures { result ≡ parts.may_go_on tokens.now }
+{
+    match tokens {
+        [] => false,
+        [first, ..] => is_among_binary(code(first.kind)),
+    }
+}
+
 /// The tokens behind the first one.
 fn behind(tokens: &[Token]) -> &[Token]
     ensures { result.now ≡ parts.behind tokens.now }
@@ -101,6 +111,25 @@ pub fn one(kind: u16, tokens: &[Token]) -> Read<'_, Token>
                 Err(Fault::Refused(tokens.len()))
             }
         }
+    }
+}
+
+/// A text.
+#[tactic(auto, unfolding(crate::specs::Reading::token))]
+pub fn one_text(tokens: &[Token]) -> Read<'_, Token>
+    ensures found { Gives seen result (reading.one codes.text tokens.now) }
+    ensures text { IfOk result (λ found. found.0.kind ≡ TokenKind.Text) }
+{
+    match tokens {
+        [] => Err(Fault::Refused(0)),
+        [first, rest @ ..] => match first.kind {
+            TokenKind::Text => Ok((*first, rest)),
+            TokenKind::Name
+            | TokenKind::Number(_, _)
+            | TokenKind::Character(_)
+            | TokenKind::Keyword(_)
+            | TokenKind::Punct(_) => Err(Fault::Refused(tokens.len())),
+        },
     }
 }
 
