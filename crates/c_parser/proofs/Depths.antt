@@ -82,8 +82,10 @@ Steps s l others = (nesting_in s ≤ around others + weight l + 2) × (AreTame (
 
 closed_steps : (here l : Level) (b : Bool) (others : List Level) → Grows here l → Steps (closed here b others) l others
 unfolding nesting_in
-closed_steps here l b [] g = let h = g.0 in (omega arith, λ t. (g.1 t.0, tt))
-closed_steps here l b (o ∷ os) g = (omega arith, λ t. t.1)
+closed_steps here l true [] g = let h = g.0 in (omega arith, λ t. (g.1 t.0, tt))
+closed_steps here l false [] g = let h = g.0 in (omega arith, λ t. (g.1 t.0, tt))
+closed_steps here l true (o ∷ os) g = (omega arith, λ t. t.1)
+closed_steps here l false (o ∷ os) g = (omega arith, λ t. t.1)
 
 behind_steps : (k : ℕ) (l : Level) (others : List Level) → Steps (behind k (record { innermost = l; others = others; ended = false })) l others
 unfolding behind nesting_in

@@ -35,10 +35,14 @@ place_in src (t ∷ rest) = t.start
 abbrev pub grammar_words : List ℕ
 grammar_words = specifier_starts ++ sizeof_word ∷ if_word ∷ else_word ∷ while_word ∷ do_word ∷ for_word ∷ return_word ∷ break_word ∷ continue_word ∷ []
 
--- `.`, `->`, `...`, and the other keywords
+-- the places of the punctuators that it has not: `.`, `->` and `...`
+abbrev pub left_out_marks : List ℕ
+left_out_marks = 6 ∷ 7 ∷ 33 ∷ []
+
+-- those, and the other keywords
 abbrev pub is_left_out : TokenKind → Bool
 is_left_out (Keyword i) = not (one_of grammar_words (keyword i))
-is_left_out (Punct i) = one_of (6 ∷ 7 ∷ 33 ∷ []) i
+is_left_out (Punct i) = one_of left_out_marks i
 is_left_out _ = false
 
 -- why the tokens stop in front of these

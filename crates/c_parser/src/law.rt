@@ -1,10 +1,12 @@
 //! Laws of the grammar.
 
-ghost use Rattle.std.specs.Prelude.{◌≡◌, ℕ, ◌++◌, List, None};
+ghost use Rattle.std.specs.Prelude.{◌≡◌, ℕ, ◌++◌, List, None, map, codes};
 ghost use Rattle.c_lexer.specs.declared.token.Token.{Token};
 ghost use Rattle.c_tree.specs.declared.unit.Unit.{Unit as TheUnit};
 ghost use Rattle.c_parser.specs.Nesting.{first_too_deep};
-ghost use Rattle.c_parser.specs.Refusals.{BeginsUnit, Refuses};
+ghost use Rattle.c_parser.specs.Refusals.{BeginsUnit, Refuses, grammar_words, left_out_marks};
+ghost use Rattle.c_expr.specs.Codes.{punct};
+ghost use Rattle.c_expr.specs.Spellings.{AreSpelled};
 ghost use Rattle.c_parser.specs.Units.{Derives};
 ghost use Rattle.c_parser.specs.declared.refusal.ParseRefusal.{ParseRefusal};
 
@@ -26,4 +28,10 @@ pub fn refusal_excludes_unit()
 /// The tokens in front of a refused one can be continued to a unit.
 pub fn refused_front_begins_unit()
     ensures { (tokens : List Token) (src : List ℕ) (refusal : ParseRefusal) → Refuses tokens src refusal → (front rest : List Token) × (tokens ≡ front ++ rest) × BeginsUnit front src }
+{}
+
+/// The keywords that the grammar has and the punctuators that it has not are spelled so (C11 6.4.1, 6.4.6).
+pub fn words_of_the_grammar()
+    ensures words { AreSpelled grammar_words (codes "static extern const volatile void _Bool char short int signed unsigned sizeof if else while do for return break continue") }
+    ensures marks { AreSpelled (map punct left_out_marks) (codes ". -> ...") }
 {}

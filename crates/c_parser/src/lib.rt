@@ -10,12 +10,14 @@ mod source;
 mod statement;
 mod unit;
 
-pub use c_expr::one_expression;
+pub use c_expr::{one_expression, spellings};
 pub use c_tree::{
     BinaryOp, Block, BlockItem, CompoundOp, Declaration, Declarator, Direct, Expr, ExprNode,
     External, ForHead, ForStart, FunctionDefinition, Initializer, Item, Name, Parameter, Pointer,
     PostfixOp, PrefixOp, Specifier, SpecifierWord, Stmt, StmtNode, Suffix, TypeName, Unit,
 };
-pub use law::{one_refusal, one_unit, refusal_excludes_unit, refused_front_begins_unit};
+pub use law::{
+    one_refusal, one_unit, refusal_excludes_unit, refused_front_begins_unit, words_of_the_grammar,
+};
 pub use parser::parse;
 pub use refusal::ParseRefusal;

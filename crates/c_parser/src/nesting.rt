@@ -109,6 +109,20 @@ impl Level {
         }
     }
 
+    /// What surrounds a bracket that closes; a `}` ends its operators.
+    fn around_closed(self, by_brace: bool) -> Level
+        ensures { result ≡ spec.around_closed by_brace self }
+    {
+        if by_brace {
+            Level {
+                operators: 0,
+                ..self
+            }
+        } else {
+            self
+        }
+    }
+
     fn weight(self) -> usize
         requires operators { self.operators < 2000 }
         requires words { self.words < 2000 }
@@ -168,12 +182,12 @@ impl LevelStack {
     {
         match self.others.pop() {
             None => {
-                self.innermost = here;
+                self.innermost = here.around_closed(by_brace);
                 self.ended = false;
             }
             Some(around) => {
                 self.outer -= 1 + around.weight();
-                self.innermost = around;
+                self.innermost = around.around_closed(by_brace);
                 self.ended = by_brace && here.brace;
             }
         }
