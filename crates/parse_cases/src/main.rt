@@ -44,11 +44,7 @@ fn answer(alloc: Global, src: &[u8], shown: bool) -> Result<String> {
                 printer.unit(&unit)?;
                 Ok(printer.text)
             } else {
-                Ok(format!(in alloc;
-                    "{} tokens, {} externals",
-                    found.len(),
-                    unit.externals.len()
-                )?)
+                Ok(format!(in alloc; "{} externals", unit.externals.len())?)
             }
         }
         Err(refusal) => Ok(format!(in alloc; "{refusal:?}")?),

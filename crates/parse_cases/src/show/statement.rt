@@ -158,6 +158,7 @@ impl Printer {
                     self.line(function.line, ":(FunctionDefinition")?;
                     self.specifiers(function.specifiers.as_slice())?;
                     self.declarator(DEEPEST, &function.declarator)?;
+                    self.word(" ")?;
                     self.block(DEEPEST, &function.body)?;
                     self.word(")")?;
                 }
