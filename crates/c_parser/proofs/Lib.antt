@@ -6,3 +6,4 @@ pub mod EnoughUnit
 pub mod RefusalLaws
 pub mod ParseLaws
 pub mod Depths
+pub mod LevelOperators

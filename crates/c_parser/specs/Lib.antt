@@ -8,3 +8,4 @@ pub mod ReadingUnits
 pub mod UnitOutcome
 pub mod UnitParts
 pub mod ForParts
+pub mod LevelTokens

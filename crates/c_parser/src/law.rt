@@ -1,9 +1,10 @@
 //! Laws of the grammar.
 
-ghost use Rattle.std.specs.Prelude.{◌≡◌, ℕ, ◌++◌, List, None, map, codes};
+ghost use Rattle.std.specs.Prelude.{◌≡◌, ℕ, ◌++◌, List, [], ◌∷◌, None, map, codes};
 ghost use Rattle.c_lexer.specs.declared.token.Token.{Token};
 ghost use Rattle.c_tree.specs.declared.unit.Unit.{Unit as TheUnit};
-ghost use Rattle.c_parser.specs.Nesting.{first_too_deep};
+ghost use Rattle.c_parser.specs.LevelTokens.{operators_in, levels_behind, operators_since, read_all};
+ghost use Rattle.c_parser.specs.Nesting.{at_start, first_too_deep};
 ghost use Rattle.c_parser.specs.Refusals.{BeginsUnit, Refuses, grammar_words, left_out_marks};
 ghost use Rattle.c_expr.specs.Codes.{punct};
 ghost use Rattle.c_expr.specs.Spellings.{AreSpelled};
@@ -34,4 +35,10 @@ pub fn refused_front_begins_unit()
 pub fn words_of_the_grammar()
     ensures words { AreSpelled grammar_words (codes "static extern const volatile void _Bool char short int signed unsigned sizeof if else while do for return break continue") }
     ensures marks { AreSpelled (map punct left_out_marks) (codes ". -> ...") }
+{}
+
+/// The operators of each open level are those that were read at it since its start or its last `,`, `;`, `{` or
+/// `}`.
+pub fn operators_of_levels()
+    ensures { (tokens : List Token) → operators_in (levels_behind at_start tokens) ≡ map operators_since (read_all ([] ∷ []) tokens) }
 {}

@@ -17,7 +17,8 @@ pub use c_tree::{
     PostfixOp, PrefixOp, Specifier, SpecifierWord, Stmt, StmtNode, Suffix, TypeName, Unit,
 };
 pub use law::{
-    one_refusal, one_unit, refusal_excludes_unit, refused_front_begins_unit, words_of_the_grammar,
+    one_refusal, one_unit, operators_of_levels, refusal_excludes_unit, refused_front_begins_unit,
+    words_of_the_grammar,
 };
 pub use parser::parse;
 pub use refusal::ParseRefusal;
