@@ -12,3 +12,4 @@ pub mod Again
 pub mod Sources
 pub mod Wholes
 pub mod Feeds
+pub mod Shapes

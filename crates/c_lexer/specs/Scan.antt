@@ -76,6 +76,23 @@ directive at bytes = ok_or (option_map (λ rest. (Include, length bytes - length
 
 -- ---- tokens
 
+-- a keyword begins with this byte and has this length
+abbrev pub is_shaped : ℕ → ℕ → Bool
+is_shaped first len =
+    if first == 97 || first == 103 || first == 108 then len == 4
+    else (if first == 98 || first == 119 then len == 5
+    else (if first == 99 then len == 4 || len == 5 || len == 8
+    else (if first == 100 then len == 2 || len == 6 || len == 7
+    else (if first == 101 then len == 4 || len == 6
+    else (if first == 102 then len == 3 || len == 5
+    else (if first == 105 then len == 2 || len == 3 || len == 6
+    else (if first == 114 then len == 6 || len == 8
+    else (if first == 115 then len == 5 || len == 6
+    else (if first == 116 then len == 7
+    else (if first == 117 then len == 5 || len == 8
+    else (if first == 118 then len == 4 || len == 8
+    else (if first == 95 then nat_le 5 len else false))))))))))))
+
 abbrev pub name_kind : Option ℕ → TokenKind
 name_kind None = Name
 name_kind (Some place) = Keyword place

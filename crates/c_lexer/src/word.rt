@@ -28,10 +28,35 @@ fn place_in(table: &[&[u8]], word: &[u8]) -> Option<usize>
     table.iter().position(|entry| *entry == word)
 }
 
-#[tactic(auto, unfolding(crate::specs::Tokens::keyword_place))]
+/// Whether a keyword begins with a byte and has a length.
+fn is_shaped(first: u8, len: usize) -> bool
+    ensures { result ≡ spec.is_shaped first len }
+{
+    match first {
+        b'a' | b'g' | b'l' => len == 4,
+        b'b' | b'w' => len == 5,
+        b'c' => len == 4 || len == 5 || len == 8,
+        b'd' => len == 2 || len == 6 || len == 7,
+        b'e' => len == 4 || len == 6,
+        b'f' => len == 3 || len == 5,
+        b'i' => len == 2 || len == 3 || len == 6,
+        b'r' => len == 6 || len == 8,
+        b's' => len == 5 || len == 6,
+        b't' => len == 7,
+        b'u' => len == 5 || len == 8,
+        b'v' => len == 4 || len == 8,
+        b'_' => 5 <= len,
+        _ => false,
+    }
+}
+
+#[tactic(auto, using(crate::proofs::Shapes::unshaped), unfolding(crate::specs::Tokens::keyword_place))]
 fn keyword_place(word: &[u8]) -> Option<u8>
     ensures { result ≡ tokens.keyword_place word.now }
 {
+    if !is_shaped(byte_at(word, 0), word.len()) {
+        return None;
+    }
     let place = place_in(&KEYWORDS, word)?;
     Some(place as u8)
 }
