@@ -178,8 +178,7 @@ impl<'s> Source<'s> {
     {
         let (specifiers, rest) = specifiers(self.alloc, tokens)?;
         let (first, rest) = self.item(rest)?;
-        let mut items = Items::new(self.alloc);
-        items.push(first)?;
+        let items = Items::from_vec(Vec::from_array(self.alloc, [first])?);
         let (items, rest) = self.further_items(items, rest)?;
         let line = first_line(&specifiers);
         let declaration = Declaration {
@@ -200,11 +199,11 @@ impl<'s> Source<'s> {
         ensures { Gives seen result (at_source parts.other_items self.now.src.now self.now.depth self.now.depth specifiers declarator tokens.now) }
     {
         let (initializer, rest) = self.given(tokens)?;
-        let mut items = Items::new(self.alloc);
-        items.push(Item {
+        let first = Item {
             declarator,
             initializer,
-        })?;
+        };
+        let items = Items::from_vec(Vec::from_array(self.alloc, [first])?);
         let (items, rest) = self.further_items(items, rest)?;
         let line = first_line(&specifiers);
         let declaration = Declaration {
