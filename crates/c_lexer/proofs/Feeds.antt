@@ -1,6 +1,6 @@
 -- Tokens and line comments hold no line feed.
-use Rattle.std.proofs.Common.{◌≡◌, ℕ, ◌+◌, ◌<◌, Bool, true, false, not, ◌&&◌, ◌||◌, cond, eqb, [], ◌∷◌, ◌++◌, length, take, drop, Ok, Some, refl, ap, sym, ◌∙◌, inl, inr, arith}
-use Rattle.std.specs.List.{position, list_all}
+use Rattle.std.proofs.Common.{◌≡◌, ℕ, ◌+◌, ◌<◌, Bool, true, false, not, ◌&&◌, cond, eqb, [], ◌∷◌, ◌++◌, length, take, drop, Ok, Some, refl, ap, sym, ◌∙◌, inl, inr, arith}
+use Rattle.std.specs.List.{list_all}
 use Rattle.std.specs.Char.{is_ascii_digit}
 use Rattle.std.specs.Str.{bytes_eq}
 use Rattle.std.proofs.lemmas.Bool.{and_parts, eqb-true, not-true}
@@ -15,7 +15,7 @@ use Rattle.c_lexer.specs.declared.piece.Piece.TheVariants.{Blank, LineComment, B
 use Rattle.c_lexer.specs.Tokens.{Bytes, IsName, IsNumber, IsQuoted, IsLineComment, IsToken, IsPiece, begins_name, continues_name, continues_number, goes_on, is_line_feed, is_body, is_plain, line_feeds, punctuator_place}
 use Rattle.c_lexer.specs.Scan.{front, feeds_of}
 use Rattle.c_lexer.proofs.Choices.{chosen}
-use Rattle.c_lexer.proofs.Marks.{at_place, place_fits, some_is}
+use Rattle.c_lexer.proofs.Marks.{at_place, place_fits}
 use Rattle.c_lexer.proofs.Quotes.{plain_parts}
 use Rattle.c_lexer.proofs.Sources.{found_piece}
 
