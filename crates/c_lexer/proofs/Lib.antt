@@ -11,3 +11,5 @@ pub mod Pieces
 pub mod Again
 pub mod Sources
 pub mod Wholes
+pub mod Feeds
+pub mod Shapes

@@ -5,14 +5,14 @@ use Rattle.std.specs.Char.{is_ascii_digit}
 use Rattle.std.specs.Str.{bytes_eq}
 use Rattle.std.proofs.lemmas.List.{take_at, take-append-drop}
 use Rattle.std.proofs.lemmas.Slice.Eq.{bytes_eq-Decides}
-use Rattle.std.proofs.lemmas.Bool.{and_parts, not-true, ltb-true, leb-true, le-leb, cases_order}
+use Rattle.std.proofs.lemmas.Bool.{and_parts, or_cases, not-true, ltb-true, leb-true, le-leb, cases_order}
 use Rattle.c_lexer.specs.declared.token.TheConstants.{PUNCTUATORS}
 use Rattle.c_lexer.specs.Tokens.{Bytes, IsLongest, NoFront, IsPunctuator, punctuator_place, is_blank, begins_name, is_quote}
-use Rattle.c_lexer.specs.Scan.{punctuator_of_length, punctuator, or_else}
+use Rattle.c_lexer.specs.Scan.{punctuator_of_length, punctuator, or_else, is_second}
 use Rattle.c_lexer.proofs.Choices.{chosen, map_some}
 
 -- what is true of each entry of a table is true of one that is found
-at_place : {X : Type 0} (p q : X → Bool) (xs : List X) → position_or_len p xs < length xs → list_all q xs ≡ true → (x : X) × (p x ≡ true) × (q x ≡ true)
+pub at_place : {X : Type 0} (p q : X → Bool) (xs : List X) → position_or_len p xs < length xs → list_all q xs ≡ true → (x : X) × (p x ≡ true) × (q x ≡ true)
 at_place {X = X} p q [] h e = absurd (omega arith)
 at_place {X = X} p q (x ∷ xs) h e =
     let parts = and_parts (q x) (list_all q xs) e in
@@ -23,7 +23,7 @@ at_place {X = X} p q (x ∷ xs) h e =
     by_test true f k g later = (x, f, g)
     by_test false f k g later = later (omega arith)
 
-place_fits : {X : Type 0} (p : X → Bool) (xs : List X) (i : ℕ) → position p xs ≡ Some i → position_or_len p xs < length xs
+pub place_fits : {X : Type 0} (p : X → Bool) (xs : List X) (i : ℕ) → position p xs ≡ Some i → position_or_len p xs < length xs
 place_fits p xs i e =
     elim (chosen (ltb (position_or_len p xs) (length xs)) (Some (position_or_len p xs)) None (Some i) e) as (λ _. position_or_len p xs < length xs)
     [ inl w ↦ ltb-true (position_or_len p xs) (length xs) w.0 | inr w ↦ absurd (let t = w.1 in cc) ]
@@ -141,3 +141,40 @@ mark_none bytes e = λ word rest i s.
         | inr more ↦ let is : length word ≡ 3 = omega (arith, mark.short) in clash (ap (λ n. punctuator_of_length n bytes) is ∙ outer.0) again
       ]
     ]
+
+-- ---- punctuators of one byte
+
+-- a word of one byte, or one whose second byte goes on with a punctuator
+is_short_or_seconded : Bytes → Bool
+is_short_or_seconded word = leb (length word) 1 || is_second (get_or word 1 0)
+
+all_seconded : list_all (λ entry. is_short_or_seconded entry.now) PUNCTUATORS ≡ true
+unfolding is_short_or_seconded
+all_seconded = refl
+
+place_is_seconded : (word : Bytes) (i : ℕ) → punctuator_place word ≡ Some i → is_short_or_seconded word ≡ true
+unfolding punctuator_place
+place_is_seconded word i e =
+    let found = at_place (λ entry. bytes_eq entry.now word) (λ entry. is_short_or_seconded entry.now) PUNCTUATORS (place_fits (λ entry. bytes_eq entry.now word) PUNCTUATORS i e) all_seconded in
+    ap is_short_or_seconded (sym ((bytes_eq-Decides found.0.now word).0 found.1)) ∙ found.2
+
+second_of_front : (n : ℕ) (bytes : Bytes) → get_or (take (suc (suc n)) bytes) 1 0 ≡ get_or bytes 1 0
+second_of_front n [] = refl
+second_of_front n (a ∷ []) = refl
+second_of_front n (a ∷ b ∷ bytes) = refl
+
+none_longer : (n : ℕ) (bytes : Bytes) (o : Option (ℕ × ℕ)) → is_second (get_or bytes 1 0) ≡ false → punctuator_of_length (suc (suc n)) bytes ≡ o → o ≡ None
+unfolding is_short_or_seconded
+none_longer n bytes None s e = refl
+none_longer n bytes (Some f) s e =
+    let is = of_length_is (suc (suc n)) bytes f e in
+    let long : length (take (suc (suc n)) bytes) ≡ suc (suc n) = length-take-le (suc (suc n)) bytes is.2 in
+    elim (or_cases (leb (length (take (suc (suc n)) bytes)) 1) (is_second (get_or (take (suc (suc n)) bytes) 1 0)) (place_is_seconded (take (suc (suc n)) bytes) f.0 is.0)) [
+      | inl short ↦ absurd (let l = leb-true (length (take (suc (suc n)) bytes)) 1 short in omega arith)
+      | inr second ↦ absurd (let t : true ≡ false = sym second ∙ ap is_second (second_of_front n bytes) ∙ s in cc)
+    ]
+
+-- where the second byte is that of no punctuator, one at the front has one byte
+pub alone : (bytes : Bytes) → is_second (get_or bytes 1 0) ≡ false → punctuator bytes ≡ punctuator_of_length 1 bytes
+unfolding punctuator
+alone bytes s = rw (none_longer 1 bytes (punctuator_of_length 3 bytes) s refl, none_longer 0 bytes (punctuator_of_length 2 bytes) s refl) refl

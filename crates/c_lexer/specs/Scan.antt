@@ -1,6 +1,6 @@
 -- What each function of the code finds at the front of the bytes, list to list. No public clause rests on these
 -- functions: the laws in proofs/ tie them to the sets of `Tokens`, in both directions.
-use Rattle.std.specs.Prelude.{ℕ, suc, zero, ◌+◌, ◌-◌, Bool, true, false, not, ◌&&◌, if◌then◌else◌, ◌==◌, nat_lt, nat_le, List, [], ◌∷◌, length, take, drop, slice_index, Option, Some, None, option_map, option_and_then, unwrap_or, ok_or, Result, Ok, Err, codes}
+use Rattle.std.specs.Prelude.{ℕ, suc, zero, ◌+◌, ◌-◌, Bool, true, false, not, ◌&&◌, ◌||◌, if◌then◌else◌, ◌==◌, nat_lt, nat_le, List, [], ◌∷◌, length, take, drop, slice_index, Option, Some, None, option_map, option_and_then, unwrap_or, ok_or, Result, Ok, Err, codes}
 use Rattle.std.specs.Char.{is_ascii_digit}
 use Rattle.std.specs.List.{prefix_len}
 use Rattle.c_lexer.specs.declared.token.Token.{Token}
@@ -10,7 +10,7 @@ use Rattle.c_lexer.specs.declared.token.LexRefusal.{LexRefusal}
 use Rattle.c_lexer.specs.declared.token.LexRefusal.TheVariants.{BadByte, OpenComment, OpenText, BadText, BadNumber, LiteralTooWide, Directive}
 use Rattle.c_lexer.specs.declared.piece.Piece.{Piece}
 use Rattle.c_lexer.specs.declared.piece.Piece.TheVariants.{Blank, LineComment, BlockComment, Include, Lexeme}
-use Rattle.c_lexer.specs.Tokens.{Bytes, begins_with, is_blank, is_line_feed, is_blank_in_line, begins_name, continues_name, keyword_place, punctuator_place, continues_number, is_constant, constant_type, constant_value, is_quote, decoded, one_byte, character_value}
+use Rattle.c_lexer.specs.Tokens.{Bytes, begins_with, is_blank, is_line_feed, is_blank_in_line, begins_name, continues_name, keyword_place, punctuator_place, continues_number, is_constant, constant_type, constant_value, is_quote, decoded, one_byte, character_value, line_feeds}
 
 -- a piece, and how many bytes it has
 abbrev pub Found : Type 0
@@ -76,6 +76,23 @@ directive at bytes = ok_or (option_map (λ rest. (Include, length bytes - length
 
 -- ---- tokens
 
+-- a keyword begins with this byte and has this length
+abbrev pub is_shaped : ℕ → ℕ → Bool
+is_shaped first len =
+    if first == 97 || first == 103 || first == 108 then len == 4
+    else (if first == 98 || first == 119 then len == 5
+    else (if first == 99 then len == 4 || len == 5 || len == 8
+    else (if first == 100 then len == 2 || len == 6 || len == 7
+    else (if first == 101 then len == 4 || len == 6
+    else (if first == 102 then len == 3 || len == 5
+    else (if first == 105 then len == 2 || len == 3 || len == 6
+    else (if first == 114 then len == 6 || len == 8
+    else (if first == 115 then len == 5 || len == 6
+    else (if first == 116 then len == 7
+    else (if first == 117 then len == 5 || len == 8
+    else (if first == 118 then len == 4 || len == 8
+    else (if first == 95 then nat_le 5 len else false))))))))))))
+
 abbrev pub name_kind : Option ℕ → TokenKind
 name_kind None = Name
 name_kind (Some place) = Keyword place
@@ -128,6 +145,10 @@ quoted at bytes = closed at (slice_index bytes 0) (drop 1 bytes) (closing (slice
 unfoldable pub punctuator_of_length : ℕ → Bytes → Option (ℕ × ℕ)
 punctuator_of_length len bytes = if nat_le len (length bytes) then option_map (λ place. (place, len)) (punctuator_place (take len bytes)) else None
 
+-- the second bytes of punctuators
+abbrev pub is_second : ℕ → Bool
+is_second b = b == 61 || b == 62 || b == 60 || b == 43 || b == 45 || b == 38 || b == 124 || b == 46
+
 abbrev pub or_else : Option (ℕ × ℕ) → Option (ℕ × ℕ) → Option (ℕ × ℕ)
 or_else None other = other
 or_else (Some found) other = Some found
@@ -151,6 +172,14 @@ front first at bytes =
     else (if begins_with (codes "//") bytes then Ok (LineComment, line_len bytes)
     else (if begins_with (codes "/*") bytes then block_comment at bytes
     else (if first && b == 35 then directive at bytes else mark at bytes))))))
+
+-- the line feeds of a piece, of which a line comment and a token have none
+abbrev pub feeds_of : Piece → Bytes → ℕ
+feeds_of Blank word = line_feeds word
+feeds_of LineComment word = 0
+feeds_of BlockComment word = line_feeds word
+feeds_of Include word = line_feeds word
+feeds_of (Lexeme kind) word = 0
 
 -- the token that a piece is, if it is one
 abbrev pub token_at : Piece → ℕ → ℕ → ℕ → List Token

@@ -52,6 +52,17 @@ fn line_feeds(bytes: &[u8]) -> usize
     bytes.iter().filter(|b| is_line_feed(**b)).count()
 }
 
+/// The line feeds of a piece, of which a line comment and a token have none.
+fn feeds_of(piece: Piece, word: &[u8]) -> usize
+    ensures value { result ≡ spec.feeds_of piece word.now }
+    ensures within { result ≤ length word.now }
+{
+    match piece {
+        Piece::Blank | Piece::BlockComment | Piece::Include => line_feeds(word),
+        Piece::LineComment | Piece::Lexeme(_) => 0,
+    }
+}
+
 /// Whether only blanks and comments stand on the line up to the end of a piece.
 fn first_after(is_first: bool, piece: Piece, word: &[u8]) -> bool
     ensures { result ≡ tokens.first_after is_first piece word.now }
@@ -79,13 +90,13 @@ impl Place {
         requires short { self.at + length word.now < 2 ^ 32 }
         requires lines { self.line + length word.now < 2 ^ 32 }
         ensures at { result.at ≡ self.at + length word.now }
-        ensures line { result.line ≡ self.line + tokens.line_feeds word.now }
+        ensures line { result.line ≡ self.line + spec.feeds_of piece word.now }
         ensures first { result.is_first ≡ tokens.first_after self.is_first piece word.now }
         ensures lines { result.line ≤ self.line + length word.now }
     {
         Place {
             at: self.at + word.len() as u32,
-            line: self.line + line_feeds(word) as u32,
+            line: self.line + feeds_of(piece, word) as u32,
             is_first: first_after(self.is_first, piece, word),
         }
     }
@@ -123,7 +134,7 @@ pub fn tokens(alloc: Global, src: &[u8]) -> Result<Vec<Token>, LexRefusal>
     ensures within { IfOk result (λ found. LieWithin 0 (length src.now) found.items) }
     ensures texts { IfOk result (λ found. HaveBytes src.now found.items) }
 {
-    let mut kept = Vec::new(alloc);
+    let mut kept = Vec::with_capacity(alloc, src.len() / 3)?;
     let mut rest = src;
     let mut place = Place {
         at: 0,

@@ -1,6 +1,6 @@
 //! Integer constants.
 
-ghost use Rattle.std.specs.Prelude.{◌≡◌, ◌+◌, ◌-◌, ◌^◌, ◌<◌, ◌≤◌, length, drop, min, Ok, IfOk, slice_index, IsTrue};
+ghost use Rattle.std.specs.Prelude.{◌≡◌, ◌+◌, ◌-◌, ◌^◌, ◌<◌, ◌≤◌, length, drop, min, Ok, IfOk, IsSome, slice_index, IsTrue};
 ghost use Rattle.c_lexer.specs.Tokens as tokens;
 ghost use Rattle.c_lexer.specs.Scan as spec;
 ghost use Rattle.std.specs.List.{list_all};
@@ -84,7 +84,8 @@ fn is_constant(word: &[u8]) -> bool
 
 /// The first type that holds the value.
 fn type_for(suffixed: bool, base: u8, value: u64) -> Option<Ty>
-    ensures { result ≡ tokens.type_for suffixed base value }
+    ensures value { result ≡ tokens.type_for suffixed base value }
+    ensures small { IsSome result → value < 2 ^ 32 }
 {
     if !suffixed && value < 1 << 31 {
         Some(Ty::Int)
@@ -108,7 +109,7 @@ fn number_kind(word: &[u8], at: u32) -> Result<TokenKind, LexRefusal>
     let value = value_in(base, digits_of(body));
     match type_for(is_suffixed(word), base, value) {
         None => Err(LexRefusal::LiteralTooWide(at)),
-        Some(ty) => Ok(TokenKind::Number(ty, value)),
+        Some(ty) => Ok(TokenKind::Number(ty, value as u32)),
     }
 }
 

@@ -173,13 +173,13 @@ fn quoted_kind(quote: u8, body: &[u8], at: u32) -> Result<TokenKind, LexRefusal>
 }
 
 /// A byte as a `char`, modulo 2^32.
-fn character_value(b: u8) -> u64
+fn character_value(b: u8) -> u32
     ensures { result ≡ tokens.character_value b }
 {
     if b < 128 {
-        u64::from(b)
+        u32::from(b)
     } else {
-        u64::from(b) + (1 << 32) - (1 << 8)
+        u32::from(b) + (u32::MAX - 255)
     }
 }
 
@@ -228,8 +228,9 @@ fn inner(word: &[u8]) -> &[u8]
     }
 }
 
-/// The bytes of a text token of a source, its escapes read (C11 6.4.5); none where the token is no text.
+/// The bytes of a text token of a source, its escapes read (C11 6.4.5); none where the source has no text there.
 pub fn text(alloc: Global, src: &[u8], token: Token) -> Result<Option<Vec<u8>>, AllocError>
+    requires text { token.kind ≡ TokenKind.Text }
     requires start { token.start ≤ token.end }
     requires end { token.end ≤ length src.now }
     ensures { IfOk result (λ found. option_map (λ bytes. bytes.items) found ≡ text_bytes src.now token) }

@@ -2,7 +2,7 @@ ghost use Rattle.std.specs.Prelude.{◌≡◌};
 ghost use Rattle.c_lexer.specs.declared.token.LexRefusal.TheVariants.{Memory};
 
 use srmt_base::Ty;
-use std::alloc::AllocFailed;
+use std::alloc::{AllocError, AllocFailed};
 
 /// A token of a source: the half-open range of its bytes, and its line, from 1.
 #[derive(Clone, Copy, Debug, PartialEq, Eq)]
@@ -24,10 +24,10 @@ pub enum TokenKind {
     Keyword(u8),
     /// An identifier.
     Name,
-    /// An integer constant: `Int` or `UInt`, and the value, below 2^32.
-    Number(Ty, u64),
+    /// An integer constant: `Int` or `UInt`, and the value.
+    Number(Ty, u32),
     /// A character constant, of type `int`: the value modulo 2^32.
-    Character(u64),
+    Character(u32),
     /// A string literal, with its quotes.
     Text,
     /// The place in `PUNCTUATORS`, from 0.
@@ -60,6 +60,14 @@ impl<T: Drop> From<AllocFailed<T>> for LexRefusal {
     ghost from_gives = { λ _ e. e ≡ Memory };
 
     fn from(_e: AllocFailed<T>) -> LexRefusal {
+        LexRefusal::Memory
+    }
+}
+
+impl From<AllocError> for LexRefusal {
+    ghost from_gives = { λ _ e. e ≡ Memory };
+
+    fn from(_e: AllocError) -> LexRefusal {
         LexRefusal::Memory
     }
 }

@@ -10,27 +10,27 @@ use Rattle.c_tree.specs.declared.declaration.Declaration.{Declaration}
 use Rattle.c_tree.specs.declared.declaration.Item.{Item}
 use Rattle.c_tree.specs.declared.declaration.Initializer.{Initializer}
 use Rattle.c_tree.specs.declared.declaration.Initializer.TheVariants as i
-use Rattle.c_parser.specs.declared.start.Start.{Start}
-use Rattle.c_parser.specs.declared.start.Start.TheVariants as at
-use Rattle.c_parser.specs.declared.start.Naming.{Naming}
-use Rattle.c_parser.specs.declared.start.Naming.TheVariants as how
-use Rattle.c_parser.specs.Codes.{open_brace, close_brace, semicolon, equals, comma, specifier_starts, declarator_starts, binary_operators}
-use Rattle.c_parser.specs.Nodes.{Bytes}
+use Rattle.c_expr.specs.declared.start.Start.{Start}
+use Rattle.c_expr.specs.declared.start.Start.TheVariants as at
+use Rattle.c_expr.specs.declared.start.Naming.{Naming}
+use Rattle.c_expr.specs.declared.start.Naming.TheVariants as how
+use Rattle.c_expr.specs.Codes.{open_brace, close_brace, semicolon, equals, comma, specifier_starts, declarator_starts, binary_operators}
+use Rattle.c_expr.specs.Nodes.{Bytes}
 use Rattle.c_parser.specs.StatementNodes.{item_node, declaration_node}
-use Rattle.c_parser.specs.Spelling.{Spelling, One, Is, Sequence, Further, Listed, Maybe, push}
-use Rattle.c_parser.specs.Grammar.{IsSpecifiers, ExprAt, DeclaratorAt}
+use Rattle.c_expr.specs.Spelling.{Spelling, One, Is, Sequence, Further, Listed, Maybe, push}
+use Rattle.c_expr.specs.Grammar.{IsSpecifiers, ExprAt, DeclaratorAt}
 use Rattle.c_parser.specs.Units.{AnyExpr, AnyDeclarator, IsInitializerLine, InitializerAt, IsInitializer, IsGiven, IsItem, IsDeclaration}
-use Rattle.c_parser.specs.Reading.{Reader, expr_at, declarator_at}
+use Rattle.c_expr.specs.Reading.{Reader, expr_at, declarator_at}
 use Rattle.c_parser.specs.ReadingUnits.{initializer_list, initializer_line, initializer_at, given, item, further_items, declaration}
-use Rattle.c_parser.proofs.Sound.{Reads, reads_is, reads_wider}
-use Rattle.c_parser.proofs.Starts.{Starts, starts_filled, starts_one, starts_sequence, starts_either, starts_wider}
-use Rattle.c_parser.proofs.Short.{reads_seq, reads_after, reads_map, reads_if, reads_swap, reads_repeat, reads_one}
-use Rattle.c_parser.proofs.Words.{starts_specifiers, reads_specifiers, reads_listed, starts_comma}
-use Rattle.c_parser.proofs.FoundAt.{reads_stop, found_at, a_name, name_word, sample_expr}
-use Rattle.c_parser.proofs.ExprStarts.{expr_starts, starts_expr, starts_declarator}
-use Rattle.c_parser.proofs.Again.{Ahead, Off, Anything, Again, Clear, again_seq, again_is, again_after, again_behind, again_map, again_if, again_maybe, again_swap, again_repeat, clear_starts, clear_is, clear_or, clear_grown, clear_sequence, again_narrower, again_ahead, again_fewer, off_within}
-use Rattle.c_parser.proofs.ExprAgain.{expr_on, level_on, declarator_on, again_specifiers, again_listed, clear_any, clear_one}
-use Rattle.c_parser.proofs.AgainAt.{again_at, nothing}
+use Rattle.c_expr.proofs.Sound.{Reads, reads_is, reads_wider}
+use Rattle.c_expr.proofs.Starts.{Starts, starts_filled, starts_one, starts_sequence, starts_either, starts_wider}
+use Rattle.c_expr.proofs.Short.{reads_seq, reads_after, reads_map, reads_if, reads_swap, reads_repeat, reads_one}
+use Rattle.c_expr.proofs.Words.{starts_specifiers, reads_specifiers, reads_listed, starts_comma}
+use Rattle.c_expr.proofs.FoundAt.{reads_stop, found_at, a_name, name_word, sample_expr}
+use Rattle.c_expr.proofs.ExprStarts.{expr_starts, starts_expr, starts_declarator}
+use Rattle.c_expr.proofs.Again.{Ahead, Off, Anything, Again, Clear, again_seq, again_is, again_after, again_behind, again_map, again_if, again_maybe, again_swap, again_repeat, clear_starts, clear_is, clear_or, clear_grown, clear_sequence, again_narrower, again_ahead, again_fewer, off_within}
+use Rattle.c_expr.proofs.ExprAgain.{expr_on, level_on, declarator_on, again_specifiers, again_listed, clear_any, clear_one}
+use Rattle.c_expr.proofs.AgainAt.{again_at, nothing}
 
 pub reads_fewer : {A : Type 0} {n m : ℕ} {S : Spelling A} {R : Reader A} → m ≤ n → Reads n S R → Reads m S R
 reads_fewer le h = record { found = h.found; fault = λ w left few e. h.fault w left (omega (arith, le, few)) e; whole = h.whole; word = h.word; sample = h.sample }

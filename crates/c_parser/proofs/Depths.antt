@@ -2,9 +2,9 @@
 use Rattle.std.proofs.Common.{◌≡◌, ℕ, zero, suc, ◌+◌, ◌-◌, ◌≤◌, ◌<◌, Bool, true, false, List, [], ◌∷◌, length, drop, get_or, refl, ap, sym, ◌∙◌, subst, Option, Some, None, option_map, if◌then◌else◌, ◌==◌, nat_lt, arith, rules}
 use Rattle.c_lexer.specs.declared.token.Token.{Token}
 use Rattle.c_parser.specs.declared.nesting.Level.{Level}
-use Rattle.c_parser.specs.Codes.{code, one_of, open_bracket, close_bracket, open_paren, close_paren, open_brace, close_brace, comma, semicolon, do_word, else_word, while_word}
+use Rattle.c_expr.specs.Codes.{code, one_of, open_bracket, close_bracket, open_paren, close_paren, open_brace, close_brace, comma, semicolon, do_word, else_word, while_word}
 use Rattle.c_parser.specs.Nesting.{Levels, behind_end, settled, found_by, opened, closed, counted, is_nesting_word, is_operator, behind, weight, around, nesting_in, nestings, first_above, first_too_deep, at_start, max_nesting}
-use Rattle.c_parser.proofs.Alike.{some_same}
+use Rattle.c_expr.proofs.Alike.{some_same}
 use Rattle.c_parser.specs.LevelStack.{levels_of, IsCounted, IsTame, AreTame}
 use Rattle.c_parser.specs.declared.nesting.LevelStack.{LevelStack}
 
@@ -82,8 +82,10 @@ Steps s l others = (nesting_in s ≤ around others + weight l + 2) × (AreTame (
 
 closed_steps : (here l : Level) (b : Bool) (others : List Level) → Grows here l → Steps (closed here b others) l others
 unfolding nesting_in
-closed_steps here l b [] g = let h = g.0 in (omega arith, λ t. (g.1 t.0, tt))
-closed_steps here l b (o ∷ os) g = (omega arith, λ t. t.1)
+closed_steps here l true [] g = let h = g.0 in (omega arith, λ t. (g.1 t.0, tt))
+closed_steps here l false [] g = let h = g.0 in (omega arith, λ t. (g.1 t.0, tt))
+closed_steps here l true (o ∷ os) g = (omega arith, λ t. t.1)
+closed_steps here l false (o ∷ os) g = (omega arith, λ t. t.1)
 
 behind_steps : (k : ℕ) (l : Level) (others : List Level) → Steps (behind k (record { innermost = l; others = others; ended = false })) l others
 unfolding behind nesting_in

@@ -6,23 +6,23 @@ use Rattle.c_tree.specs.declared.expression.Expr.{Expr}
 use Rattle.c_tree.specs.declared.expression.Declarator.{Declarator}
 use Rattle.c_tree.specs.declared.declaration.Item.{Item}
 use Rattle.c_tree.specs.declared.declaration.Initializer.{Initializer}
-use Rattle.c_parser.specs.declared.start.Start.{Start}
-use Rattle.c_parser.specs.declared.start.Start.TheVariants as at
-use Rattle.c_parser.specs.declared.start.Naming.{Naming}
-use Rattle.c_parser.specs.declared.start.Naming.TheVariants as how
-use Rattle.c_parser.specs.Codes.{of_kind, open_brace, semicolon, specifier_starts}
-use Rattle.c_parser.specs.Nodes.{Bytes}
+use Rattle.c_expr.specs.declared.start.Start.{Start}
+use Rattle.c_expr.specs.declared.start.Start.TheVariants as at
+use Rattle.c_expr.specs.declared.start.Naming.{Naming}
+use Rattle.c_expr.specs.declared.start.Naming.TheVariants as how
+use Rattle.c_expr.specs.Codes.{of_kind, open_brace, semicolon, specifier_starts}
+use Rattle.c_expr.specs.Nodes.{Bytes}
 use Rattle.c_parser.specs.StatementNodes.{item_node, declaration_node}
-use Rattle.c_parser.specs.Spelling.{push}
+use Rattle.c_expr.specs.Spelling.{push}
 use Rattle.c_parser.specs.Units.{InitializerAt}
-use Rattle.c_parser.specs.Reading.{Reader, begins, and_then, specifiers, expr_at, declarator_at}
+use Rattle.c_expr.specs.Reading.{Reader, begins, and_then, specifiers, expr_at, declarator_at}
 use Rattle.c_parser.specs.ReadingUnits.{initializer_list, initializer_line, initializer_at, given, item, further_items, declaration}
-use Rattle.c_parser.proofs.Starts.{starts_filled}
+use Rattle.c_expr.proofs.Starts.{starts_filled}
 use Rattle.c_tree.specs.declared.statement.Stmt.{Stmt}
 use Rattle.c_tree.specs.declared.statement.ForStart.TheVariants as f
 use Rattle.c_tree.specs.declared.statement.BlockItem.TheVariants as b
-use Rattle.c_parser.specs.Codes.{close_paren, break_word, continue_word, do_word, for_word, if_word, return_word, while_word}
-use Rattle.c_parser.specs.StatementNodes.{block_node, block_stmt, empty_stmt, expr_stmt, if_stmt, while_stmt, do_stmt, for_stmt, continue_stmt, break_stmt, return_stmt}
+use Rattle.c_expr.specs.Codes.{close_paren, break_word, continue_word, do_word, for_word, if_word, return_word, while_word}
+use Rattle.c_parser.specs.StatementNodes.{block_node, block_stmt, empty_stmt, expr_stmt, if_stmt, while_stmt, do_stmt, for_head, for_stmt, continue_stmt, break_stmt, return_stmt}
 use Rattle.c_parser.specs.Units.{StmtAt}
 use Rattle.c_parser.specs.ReadingUnits.{optional, condition, for_start, block_item, block_items, block, expr_statement, if_statement, while_statement, do_statement, for_statement, return_statement, break_statement, continue_statement, stmt_line, statement_at}
 use Rattle.c_parser.proofs.Statements.{stmt_starts, starts_stmt_at}
@@ -31,8 +31,8 @@ use Rattle.c_parser.specs.StatementNodes.{function_node, unit_node}
 use Rattle.c_parser.specs.ReadingUnits.{function_body, other_items, external, ended, unit}
 use Rattle.c_parser.proofs.Declarations.{initializer_starts, starts_initializer_at, reads_initializer_at}
 use Rattle.c_parser.proofs.Statements.{reads_statement_at}
-use Rattle.c_parser.proofs.Enough.{Same, same_seq, same_token, same_after, same_behind, same_is, same_map, same_choose, same_grown, same_fewer, same_listed, same_parens_here, same_none}
-use Rattle.c_parser.proofs.EnoughExpr.{same_specifiers, same_expr_at}
+use Rattle.c_expr.proofs.Enough.{Same, same_seq, same_token, same_after, same_behind, same_is, same_map, same_choose, same_grown, same_fewer, same_listed, same_parens_here, same_none}
+use Rattle.c_expr.proofs.EnoughExpr.{same_specifiers, same_expr_at}
 
 module _ (src : Bytes) (n m : ℕ) (le : n ≤ m) where
   abbrev E : Start → Reader Expr
@@ -125,7 +125,7 @@ module _ (src : Bytes) (n m : ℕ) (le : n ≤ m) where
     same_for : Same (suc d) (for_statement E D n stmt) (for_statement F G m stmt')
     unfolding for_statement
     same_for = same_after _ (λ t. same_behind _ (λ _. same_seq (same_fewer (omega arith) same_for_start) (λ start. same_seq (opt_same semicolon) (λ x. same_behind _ (λ _. same_seq (opt_same close_paren) (λ step. same_behind _ (λ _.
-        same_seq h (λ body. same_is d (for_stmt t.line start x step body)))))))))
+        same_seq h (λ body. same_is d (for_stmt t.line (for_head start x step) body)))))))))
 
     same_return : Same (suc d) (return_statement E D n stmt) (return_statement F G m stmt')
     unfolding return_statement

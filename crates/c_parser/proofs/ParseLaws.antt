@@ -8,13 +8,13 @@ use Rattle.c_lexer.specs.declared.token.Token.{Token}
 use Rattle.c_tree.specs.declared.unit.Unit.{Unit as TheUnit}
 use Rattle.c_parser.specs.declared.refusal.ParseRefusal.{ParseRefusal}
 use Rattle.c_parser.specs.declared.refusal.ParseRefusal.TheVariants.{Expected, LeftOut, TooDeep, Memory}
-use Rattle.c_parser.specs.Nodes.{Bytes}
+use Rattle.c_expr.specs.Nodes.{Bytes}
 use Rattle.c_parser.specs.Units.{Derives}
 use Rattle.c_parser.specs.Nesting.{first_too_deep}
 use Rattle.c_parser.specs.Refusals.{BeginsUnit, Stops, RefusedAt, is_left_out, IsRefusalOf, NoneTooDeep, Refuses}
 use Rattle.c_parser.specs.Answers.{Answers, IsUnitWithin, UnlessMemory}
 use Rattle.c_parser.specs.ReadingUnits.{unit_of}
-use Rattle.c_parser.proofs.Alike.{head_same, tail_same, some_same}
+use Rattle.c_expr.proofs.Alike.{head_same, tail_same, some_same}
 use Rattle.c_parser.proofs.UnitLaws.{one_unit_of, unit_of_found}
 use Rattle.c_parser.proofs.RefusalLaws.{unit_of_refused, refusal_is_no_unit, cut_once}
 

@@ -2,21 +2,21 @@
 use Rattle.std.proofs.Common.{◌≡◌, ℕ, suc, ◌+◌, ◌≤◌, List, [], ◌∷◌, ◌++◌, length, refl, ap, sym, ◌∙◌, subst, Ok, Err, inl, inr, length-append, arith}
 use Rattle.std.proofs.lemmas.List.{append-nil, append_assoc}
 use Rattle.c_lexer.specs.declared.token.Token.{Token}
-use Rattle.c_parser.specs.Codes.{specifier_starts}
-use Rattle.c_parser.specs.Nodes.{Bytes}
-use Rattle.c_parser.specs.Spelling.{Further, push}
-use Rattle.c_parser.specs.Reading.{Reader, begins, and_then, grown, expr_at, declarator_at}
-use Rattle.c_parser.proofs.Alike.{Alike}
-use Rattle.c_parser.proofs.Sound.{Fault}
+use Rattle.c_expr.specs.Codes.{specifier_starts}
+use Rattle.c_expr.specs.Nodes.{Bytes}
+use Rattle.c_expr.specs.Spelling.{Further, push}
+use Rattle.c_expr.specs.Reading.{Reader, begins, and_then, grown, expr_at, declarator_at}
+use Rattle.c_expr.proofs.Alike.{Alike}
+use Rattle.c_expr.proofs.Sound.{Fault}
 use Rattle.c_tree.specs.declared.unit.Unit.{Unit as TheUnit}
 use Rattle.c_tree.specs.declared.unit.External.{External}
 use Rattle.c_parser.specs.StatementNodes.{unit_node}
 use Rattle.c_parser.specs.Units.{IsExternal, IsUnit, Derives}
 use Rattle.c_parser.specs.ReadingUnits.{external, ended, unit, unit_of}
-use Rattle.c_parser.proofs.Alike.{and_then_err, err_same, ok_is_no_err}
-use Rattle.c_parser.proofs.Sound.{Fault}
+use Rattle.c_expr.proofs.Alike.{and_then_err, err_same, ok_is_no_err}
+use Rattle.c_expr.proofs.Sound.{Fault}
 use Rattle.c_parser.specs.Refusals.{Stops, RefusedAt}
-use Rattle.c_parser.proofs.Alike.{head_same, tail_same}
+use Rattle.c_expr.proofs.Alike.{head_same, tail_same}
 use Rattle.c_parser.proofs.UnitLaws.{reads_externals, unit_again, nothing_read}
 use Rattle.c_parser.proofs.EnoughUnit.{same_unit}
 

@@ -5,32 +5,32 @@ use Rattle.c_lexer.specs.declared.token.Token.{Token}
 use Rattle.c_lexer.specs.declared.token.TokenKind.TheVariants.{Keyword, Punct}
 use Rattle.c_tree.specs.declared.expression.Expr.{Expr}
 use Rattle.c_tree.specs.declared.expression.Declarator.{Declarator}
-use Rattle.c_parser.specs.declared.start.Start.{Start}
-use Rattle.c_parser.specs.declared.start.Start.TheVariants as at
-use Rattle.c_parser.specs.declared.start.Naming.{Naming}
-use Rattle.c_parser.specs.Codes.{open_brace, close_brace, semicolon, specifier_starts}
-use Rattle.c_parser.specs.Nodes.{Bytes}
-use Rattle.c_parser.specs.Spelling.{Spelling, One, Is, Sequence, ◌or◌, push}
+use Rattle.c_expr.specs.declared.start.Start.{Start}
+use Rattle.c_expr.specs.declared.start.Start.TheVariants as at
+use Rattle.c_expr.specs.declared.start.Naming.{Naming}
+use Rattle.c_expr.specs.Codes.{open_brace, close_brace, semicolon, specifier_starts}
+use Rattle.c_expr.specs.Nodes.{Bytes}
+use Rattle.c_expr.specs.Spelling.{Spelling, One, Is, Sequence, ◌or◌, push}
 use Rattle.c_parser.specs.Units.{AnyExpr, IsDeclaration}
-use Rattle.c_parser.specs.Reading.{Reader, begins, and_then, one, pure, stop, choose, expr_at, declarator_at}
-use Rattle.c_parser.proofs.Sound.{Reads, reads_is, reads_wider, reads_equal}
-use Rattle.c_parser.proofs.Repeat.{Filled}
-use Rattle.c_parser.proofs.Starts.{Starts, within, starts_filled, starts_one, starts_sequence, starts_wider}
-use Rattle.c_parser.proofs.Short.{reads_seq, reads_after, reads_map, reads_if, reads_swap, reads_one, of}
-use Rattle.c_parser.proofs.FoundAt.{reads_stop}
-use Rattle.c_parser.proofs.ExprStarts.{expr_starts}
-use Rattle.c_parser.proofs.Again.{Off}
+use Rattle.c_expr.specs.Reading.{Reader, begins, and_then, one, pure, stop, choose, expr_at, declarator_at}
+use Rattle.c_expr.proofs.Sound.{Reads, reads_is, reads_wider, reads_equal}
+use Rattle.c_expr.proofs.Repeat.{Filled}
+use Rattle.c_expr.proofs.Starts.{Starts, within, starts_filled, starts_one, starts_sequence, starts_wider}
+use Rattle.c_expr.proofs.Short.{reads_seq, reads_after, reads_map, reads_if, reads_swap, reads_one, of}
+use Rattle.c_expr.proofs.FoundAt.{reads_stop}
+use Rattle.c_expr.proofs.ExprStarts.{expr_starts}
+use Rattle.c_expr.proofs.Again.{Off}
 use Rattle.c_tree.specs.declared.statement.Stmt.{Stmt}
 use Rattle.c_tree.specs.declared.statement.ForStart.TheVariants as f
 use Rattle.c_tree.specs.declared.statement.BlockItem.TheVariants as b
-use Rattle.c_parser.specs.Codes.{open_paren, close_paren, break_word, continue_word, do_word, else_word, for_word, if_word, return_word, while_word}
-use Rattle.c_parser.specs.StatementNodes.{block_node, block_stmt, empty_stmt, expr_stmt, if_stmt, while_stmt, do_stmt, for_stmt, continue_stmt, break_stmt, return_stmt}
-use Rattle.c_parser.specs.Spelling.{In_parens, Never}
+use Rattle.c_expr.specs.Codes.{open_paren, close_paren, break_word, continue_word, do_word, else_word, for_word, if_word, return_word, while_word}
+use Rattle.c_parser.specs.StatementNodes.{block_node, block_stmt, empty_stmt, expr_stmt, if_stmt, while_stmt, do_stmt, for_head, for_stmt, continue_stmt, break_stmt, return_stmt}
+use Rattle.c_expr.specs.Spelling.{In_parens, Never}
 use Rattle.c_parser.specs.Units.{IsBlockItem, IsBlock, IsBlockStmt, IsExprStmt, IsElse, IsIf, IsWhile, IsDo, IsOptional, IsForStart, IsFor, IsContinue, IsBreak, IsReturn, Closed, IsStmtLine, StmtAt}
-use Rattle.c_parser.specs.Reading.{until, ◌>>=◌, ◌>>◌, ◌<$>◌}
+use Rattle.c_expr.specs.Reading.{until, ◌>>=◌, ◌>>◌, ◌<$>◌}
 use Rattle.c_parser.specs.ReadingUnits.{optional, condition, for_start, block_item, block_items, block, expr_statement, if_statement, while_statement, do_statement, for_statement, return_statement, break_statement, continue_statement, stmt_line, statement_at}
-use Rattle.c_parser.proofs.Alike.{Heads, and_then_ok, ok_same, false_is_not_true}
-use Rattle.c_parser.proofs.Repeat.{reads_grown}
+use Rattle.c_expr.proofs.Alike.{Heads, and_then_ok, ok_same, false_is_not_true}
+use Rattle.c_expr.proofs.Repeat.{reads_grown}
 use Rattle.c_parser.proofs.Declarations.{reads_fewer, any_starts, any_reads, reads_declaration, starts_declaration}
 
 -- ---- readers that also tell whether an `else` could belong to what they read
@@ -83,7 +83,7 @@ module _ (expr : Start → Reader Expr) (declarator : Naming → Reader Declarat
       step ← optional expr declarator depth close_paren
       one close_paren
       body ← stmt
-      pure (for_stmt t.line start x step body.0, body.1)
+      pure (for_stmt t.line (for_head start x step) body.0, body.1)
 
     abbrev pub told_line : Reader (Stmt × Bool)
     told_line =
@@ -315,7 +315,7 @@ module _ (expr : Start → Reader Expr) (declarator : Naming → Reader Declarat
 
   tells_for : Tells (told_for expr declarator depth stmt)
   tells_for = tells_seq (one for_word) _ (λ t. tells_seq (one open_paren) _ (λ _. tells_seq (for_start expr declarator depth) _ (λ start. tells_seq (optional expr declarator depth semicolon) _ (λ x.
-      tells_seq (one semicolon) _ (λ _. tells_seq (optional expr declarator depth close_paren) _ (λ step. tells_seq (one close_paren) _ (λ _. tells_last (λ q. for_stmt t.line start x step q.0))))))))
+      tells_seq (one semicolon) _ (λ _. tells_seq (optional expr declarator depth close_paren) _ (λ step. tells_seq (one close_paren) _ (λ _. tells_last (λ q. for_stmt t.line (for_head start x step) q.0))))))))
 
   abbrev Branch : Type 0
   Branch = (Option Stmt × Bool) × List Token

@@ -3,38 +3,38 @@ use Rattle.std.proofs.Common.{◌≡◌, ℕ, zero, suc, ◌≤◌, Bool, true, 
 use Rattle.c_lexer.specs.declared.token.Token.{Token}
 use Rattle.c_tree.specs.declared.expression.Expr.{Expr}
 use Rattle.c_tree.specs.declared.expression.Declarator.{Declarator}
-use Rattle.c_parser.specs.declared.start.Start.{Start}
-use Rattle.c_parser.specs.declared.start.Start.TheVariants as at
-use Rattle.c_parser.specs.declared.start.Naming.{Naming}
-use Rattle.c_parser.specs.Codes.{code, of_kind, open_brace, close_brace, semicolon, specifier_starts, binary_operators}
-use Rattle.c_parser.specs.Nodes.{Bytes}
-use Rattle.c_parser.specs.Spelling.{Spelling, One, Is, Sequence, Further, ◌or◌, push}
+use Rattle.c_expr.specs.declared.start.Start.{Start}
+use Rattle.c_expr.specs.declared.start.Start.TheVariants as at
+use Rattle.c_expr.specs.declared.start.Naming.{Naming}
+use Rattle.c_expr.specs.Codes.{code, of_kind, open_brace, close_brace, semicolon, specifier_starts, binary_operators}
+use Rattle.c_expr.specs.Nodes.{Bytes}
+use Rattle.c_expr.specs.Spelling.{Spelling, One, Is, Sequence, Further, ◌or◌, push}
 use Rattle.c_parser.specs.Units.{AnyExpr, IsDeclaration}
-use Rattle.c_parser.specs.Reading.{Reader, begins, and_then, one, pure, choose, expr_at, declarator_at}
-use Rattle.c_parser.proofs.Repeat.{Filled}
-use Rattle.c_parser.proofs.Starts.{Starts, apart, starts_filled, starts_one, starts_sequence, starts_either, starts_wider, begins_with, begins_apart, starts_empty, apart_one, within_left, within_right, within_self}
-use Rattle.c_parser.proofs.ExprStarts.{expr_starts}
-use Rattle.c_parser.proofs.Again.{Ahead, Off, On, Anything, Again, Clear, again_seq, again_is, again_token, again_after, again_behind, again_map, again_choose, again_if, clear_is, clear_sequence, again_narrower, again_ahead, again_fewer}
-use Rattle.c_parser.proofs.ExprAgain.{expr_on, level_on, clear_any, clear_one, off_of}
-use Rattle.c_parser.proofs.AgainAt.{nothing}
+use Rattle.c_expr.specs.Reading.{Reader, begins, and_then, one, pure, choose, expr_at, declarator_at}
+use Rattle.c_expr.proofs.Repeat.{Filled}
+use Rattle.c_expr.proofs.Starts.{Starts, apart, starts_filled, starts_one, starts_sequence, starts_either, starts_wider, begins_with, begins_apart, starts_empty, apart_one, within_left, within_right, within_self}
+use Rattle.c_expr.proofs.ExprStarts.{expr_starts}
+use Rattle.c_expr.proofs.Again.{Ahead, Off, On, Anything, Again, Clear, again_seq, again_is, again_token, again_after, again_behind, again_map, again_choose, again_if, clear_is, clear_sequence, again_narrower, again_ahead, again_fewer}
+use Rattle.c_expr.proofs.ExprAgain.{expr_on, level_on, clear_any, clear_one, off_of}
+use Rattle.c_expr.proofs.AgainAt.{nothing}
 use Rattle.c_tree.specs.declared.statement.Stmt.{Stmt}
 use Rattle.c_tree.specs.declared.statement.ForStart.TheVariants as f
 use Rattle.c_tree.specs.declared.statement.Block.{Block}
 use Rattle.c_tree.specs.declared.statement.BlockItem.{BlockItem}
 use Rattle.c_tree.specs.declared.statement.BlockItem.TheVariants as b
-use Rattle.c_parser.specs.Codes.{open_paren, close_paren, break_word, continue_word, do_word, else_word, for_word, if_word, return_word, while_word}
-use Rattle.c_parser.specs.StatementNodes.{block_node, block_stmt, empty_stmt, expr_stmt, if_stmt, while_stmt, do_stmt, for_stmt, continue_stmt, break_stmt, return_stmt}
-use Rattle.c_parser.specs.Spelling.{In_parens, Never, Many}
+use Rattle.c_expr.specs.Codes.{open_paren, close_paren, break_word, continue_word, do_word, else_word, for_word, if_word, return_word, while_word}
+use Rattle.c_parser.specs.StatementNodes.{block_node, block_stmt, empty_stmt, expr_stmt, if_stmt, while_stmt, do_stmt, for_head, for_stmt, continue_stmt, break_stmt, return_stmt}
+use Rattle.c_expr.specs.Spelling.{In_parens, Never, Many}
 use Rattle.c_parser.specs.Units.{IsBlockItem, IsBlock, IsBlockStmt, IsExprStmt, IsEmptyStmt, IsElse, IsWhile, IsDo, IsOptional, IsForStart, IsFor, IsContinue, IsBreak, IsReturn, Closed, IsStmtLine, StmtAt}
-use Rattle.c_parser.specs.Reading.{until, ◌>>◌, ◌<$>◌}
+use Rattle.c_expr.specs.Reading.{until, ◌>>◌, ◌<$>◌}
 use Rattle.c_parser.specs.ReadingUnits.{optional, condition, for_start, block_item, block_items, block, expr_statement, if_statement, while_statement, do_statement, for_statement, return_statement, break_statement, continue_statement, stmt_line, statement_at}
-use Rattle.c_parser.proofs.Alike.{false_is_not_true}
+use Rattle.c_expr.proofs.Alike.{false_is_not_true}
 use Rattle.c_parser.proofs.Declarations.{any_starts, starts_declaration}
-use Rattle.c_parser.proofs.Repeat.{Filled}
-use Rattle.c_parser.proofs.Unary.{same_word}
-use Rattle.c_parser.proofs.Again.{again_grown}
-use Rattle.c_parser.proofs.Past.{begins_other}
-use Rattle.c_parser.proofs.ExprAgain.{clear_on, again_empty, again_parens_here}
+use Rattle.c_expr.proofs.Repeat.{Filled}
+use Rattle.c_expr.proofs.Unary.{same_word}
+use Rattle.c_expr.proofs.Again.{again_grown}
+use Rattle.c_expr.proofs.Past.{begins_other}
+use Rattle.c_expr.proofs.ExprAgain.{clear_on, again_empty, again_parens_here}
 use Rattle.c_parser.proofs.Declarations.{any_again, again_declaration}
 use Rattle.c_parser.proofs.Statements.{stmt_starts, starts_stmt_at}
 
@@ -192,12 +192,12 @@ module _ (src : Bytes) (n d : ℕ) (le : suc d ≤ n) (S : Spelling (Stmt × Boo
 
   abbrev For_of : Bool → Spelling Stmt
   For_of b = Sequence (One for_word) (λ t. Sequence (One open_paren) (λ _. Sequence (IsForStart src S) (λ start. Sequence (IsOptional src S) (λ x. Sequence (One semicolon) (λ _.
-      Sequence (IsOptional src S) (λ step. Sequence (One close_paren) (λ _. Sequence (Open b S) (λ body. Is (for_stmt t.line start x step body)))))))))
+      Sequence (IsOptional src S) (λ step. Sequence (One close_paren) (λ _. Sequence (Open b S) (λ body. Is (for_stmt t.line (for_head start x step) body)))))))))
 
   again_for : (b : Bool) → Again (suc d) (For_of b) (for_statement E D n stmt) (Tail b)
   unfolding for_statement
   again_for b = again_after (λ t. again_behind (λ _. again_seq {P = Anything} again_for_start (λ start. clear_any) (λ start. again_seq until_semicolon (λ x. clear_on semicolon _) (λ x. again_behind (λ _.
-      again_seq until_paren (λ step. clear_on close_paren _) (λ step. again_behind (λ _. again_seq (h b) (λ body. tail_is b (for_stmt t.line start x step body)) (λ body. again_is d (for_stmt t.line start x step body)))))))))
+      again_seq until_paren (λ step. clear_on close_paren _) (λ step. again_behind (λ _. again_seq (h b) (λ body. tail_is b (for_stmt t.line (for_head start x step) body)) (λ body. again_is d (for_stmt t.line (for_head start x step) body)))))))))
 
   abbrev Else_of : Bool → Spelling (Option Stmt)
   Else_of b = Sequence (One else_word) (λ _. Sequence (Open b S) (λ x. Is (Some x)))
@@ -368,7 +368,7 @@ module _ (src : Bytes) (n d : ℕ) (le : suc d ≤ n) (S : Spelling (Stmt × Boo
       let k5 = k4.second in
       let k6 = k5.second in
       let body = k6.second in
-      let value : (y, o) ≡ (for_stmt k.of.line k2.of k3.of k5.of body.of.0, body.of.1) = body.second.0 in
+      let value : (y, o) ≡ (for_stmt k.of.line (for_head k2.of k3.of k5.of) body.of.0, body.of.1) = body.second.0 in
       record {
         of = k.of;
         front = k.front;

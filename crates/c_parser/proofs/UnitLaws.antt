@@ -6,27 +6,27 @@ use Rattle.c_tree.specs.declared.specifier.Specifier.{Specifier}
 use Rattle.c_tree.specs.declared.expression.Expr.{Expr}
 use Rattle.c_tree.specs.declared.expression.Declarator.{Declarator}
 use Rattle.c_tree.specs.declared.declaration.Item.{Item}
-use Rattle.c_parser.specs.declared.start.Start.{Start}
-use Rattle.c_parser.specs.declared.start.Naming.{Naming}
-use Rattle.c_parser.specs.declared.start.Naming.TheVariants as how
-use Rattle.c_parser.specs.Codes.{open_brace, semicolon, equals, comma, specifier_starts, declarator_starts, binary_operators}
-use Rattle.c_parser.specs.Nodes.{Bytes}
+use Rattle.c_expr.specs.declared.start.Start.{Start}
+use Rattle.c_expr.specs.declared.start.Naming.{Naming}
+use Rattle.c_expr.specs.declared.start.Naming.TheVariants as how
+use Rattle.c_expr.specs.Codes.{open_brace, semicolon, equals, comma, specifier_starts, declarator_starts, binary_operators}
+use Rattle.c_expr.specs.Nodes.{Bytes}
 use Rattle.c_parser.specs.StatementNodes.{item_node, declaration_node}
-use Rattle.c_parser.specs.Spelling.{Spelling, One, Is, Sequence, Further, Maybe, ◌or◌, push}
-use Rattle.c_parser.specs.Grammar.{IsSpecifiers}
+use Rattle.c_expr.specs.Spelling.{Spelling, One, Is, Sequence, Further, Maybe, ◌or◌, push}
+use Rattle.c_expr.specs.Grammar.{IsSpecifiers}
 use Rattle.c_parser.specs.Units.{AnyDeclarator, IsGiven, IsItem, IsDeclaration}
-use Rattle.c_parser.specs.Reading.{Reader, grown_from, begins, and_then, grown, expr_at, declarator_at}
-use Rattle.c_parser.proofs.Sound.{Reads, reads_is, reads_wider, reads_equal}
-use Rattle.c_parser.proofs.Starts.{Starts, Opens, starts_filled, starts_one, starts_sequence, starts_either, starts_wider, starts_empty}
-use Rattle.c_parser.proofs.Short.{reads_seq, reads_map, reads_if, reads_repeat}
-use Rattle.c_parser.proofs.Words.{starts_specifiers, reads_specifiers, starts_comma}
-use Rattle.c_parser.proofs.Again.{Ahead, Off, Anything, Again, again_seq, again_is, again_map, again_if, again_repeat, clear_starts, clear_or, again_narrower, again_ahead, again_fewer}
-use Rattle.c_parser.proofs.ExprAgain.{expr_on, level_on, declarator_on, again_specifiers, clear_any}
+use Rattle.c_expr.specs.Reading.{Reader, grown_from, begins, and_then, grown, expr_at, declarator_at}
+use Rattle.c_expr.proofs.Sound.{Reads, reads_is, reads_wider, reads_equal}
+use Rattle.c_expr.proofs.Starts.{Starts, Opens, starts_filled, starts_one, starts_sequence, starts_either, starts_wider, starts_empty}
+use Rattle.c_expr.proofs.Short.{reads_seq, reads_map, reads_if, reads_repeat}
+use Rattle.c_expr.proofs.Words.{starts_specifiers, reads_specifiers, starts_comma}
+use Rattle.c_expr.proofs.Again.{Ahead, Off, Anything, Again, again_seq, again_is, again_map, again_if, again_repeat, clear_starts, clear_or, again_narrower, again_ahead, again_fewer}
+use Rattle.c_expr.proofs.ExprAgain.{expr_on, level_on, declarator_on, again_specifiers, clear_any}
 use Rattle.c_tree.specs.declared.statement.Stmt.{Stmt}
-use Rattle.c_parser.specs.Spelling.{Many}
+use Rattle.c_expr.specs.Spelling.{Many}
 use Rattle.c_parser.specs.Units.{IsBlock, StmtAt}
 use Rattle.c_parser.specs.ReadingUnits.{block, statement_at}
-use Rattle.c_parser.proofs.Alike.{and_then_ok, ok_same}
+use Rattle.c_expr.proofs.Alike.{and_then_ok, ok_same}
 use Rattle.c_parser.proofs.Declarations.{reads_fewer, declarator_any_reads, starts_declaration}
 use Rattle.c_parser.proofs.Statements.{stmt_starts, starts_block, starts_stmt_at}
 use Rattle.c_tree.specs.declared.unit.Unit.{Unit as TheUnit}

@@ -4,7 +4,7 @@ use Rattle.c_lexer.specs.declared.token.Token.{Token}
 use Rattle.c_tree.specs.declared.unit.Unit.{Unit as TheUnit}
 use Rattle.c_parser.specs.declared.refusal.ParseRefusal.{ParseRefusal}
 use Rattle.c_parser.specs.declared.refusal.ParseRefusal.TheVariants.{Memory}
-use Rattle.c_parser.specs.Nodes.{Bytes}
+use Rattle.c_expr.specs.Nodes.{Bytes}
 use Rattle.c_parser.specs.Units.{Derives}
 use Rattle.c_parser.specs.Nesting.{first_too_deep}
 use Rattle.c_parser.specs.Refusals.{Refuses}

@@ -3,26 +3,27 @@ use Rattle.std.specs.Prelude.{ℕ, [], ◌∷◌, Option}
 use Rattle.c_tree.specs.declared.expression.Expr.{Expr}
 use Rattle.c_tree.specs.declared.expression.Declarator.{Declarator}
 use Rattle.c_tree.specs.declared.statement.Stmt.{Stmt}
+use Rattle.c_tree.specs.declared.statement.ForHead.{ForHead}
 use Rattle.c_tree.specs.declared.statement.ForStart.{ForStart}
-use Rattle.c_parser.specs.declared.start.Start.{Start}
-use Rattle.c_parser.specs.declared.start.Naming.{Naming}
-use Rattle.c_parser.specs.Codes.{close_paren, semicolon, break_word, continue_word, do_word, for_word, return_word, while_word}
-use Rattle.c_parser.specs.StatementNodes.{for_stmt, if_stmt}
-use Rattle.c_parser.specs.Reading.{Reader, ◌>>=◌, ◌>>◌, pure, one, begins, choose}
+use Rattle.c_expr.specs.declared.start.Start.{Start}
+use Rattle.c_expr.specs.declared.start.Naming.{Naming}
+use Rattle.c_expr.specs.Codes.{close_paren, semicolon, break_word, continue_word, do_word, for_word, return_word, while_word}
+use Rattle.c_parser.specs.StatementNodes.{for_head, for_stmt, if_stmt}
+use Rattle.c_expr.specs.Reading.{Reader, ◌>>=◌, ◌>>◌, pure, one, begins, choose}
 use Rattle.c_parser.specs.ReadingUnits.{optional, expr_statement, while_statement, do_statement, for_statement, return_statement, break_statement, continue_statement}
 use Rattle.c_parser.specs.UnitParts.{second_branch}
 
 module _ (expr : Start → Reader Expr) (declarator : Naming → Reader Declarator) (depth : ℕ) (stmt : Reader Stmt) where
   -- the body, with what stands before
-  abbrev pub for_body : ℕ → ForStart → Option Expr → Option Expr → Reader Stmt
-  for_body line start condition step = stmt >>= (λ body. pure (for_stmt line start condition step body))
+  abbrev pub for_body : ℕ → ForHead → Reader Stmt
+  for_body line head = stmt >>= (λ body. pure (for_stmt line head body))
 
   -- the step, the `)` and the body, with what stands before
   abbrev pub for_step : ℕ → ForStart → Option Expr → Reader Stmt
   for_step line start condition = do
     step ← optional expr declarator depth close_paren
     one close_paren
-    for_body line start condition step
+    for_body line (for_head start condition step)
 
   -- the condition and all that follows
   abbrev pub for_condition : ℕ → ForStart → Reader Stmt

@@ -2,7 +2,7 @@
 use Rattle.std.specs.Prelude.{ℕ, suc, ◌+◌, ◌-◌, Bool, true, false, not, ◌||◌, ◌&&◌, if◌then◌else◌, ◌==◌, nat_lt, nat_le, List, [], ◌∷◌, Option, Some, None, option_map}
 use Rattle.c_lexer.specs.declared.token.Token.{Token}
 use Rattle.c_parser.specs.declared.nesting.Level.{Level}
-use Rattle.c_parser.specs.Codes.{code, punct, one_of, open_bracket, close_bracket, open_paren, close_paren, open_brace, close_brace, comma, semicolon, sizeof_word, do_word, else_word, for_word, if_word, while_word}
+use Rattle.c_expr.specs.Codes.{code, punct, one_of, open_bracket, close_bracket, open_paren, close_paren, open_brace, close_brace, comma, semicolon, sizeof_word, do_word, else_word, for_word, if_word, while_word}
 
 abbrev pub started : Bool → Level
 started brace = record { brace = brace; operators = 0; words = 0; dos = 0 }
@@ -43,10 +43,15 @@ found_by k s = record { innermost = settled s.innermost (behind_end k s.innermos
 abbrev pub opened : Level → Bool → List Level → Levels
 opened l brace others = record { innermost = started brace; others = l ∷ others; ended = false }
 
+-- a `}` is read at the level that surrounds what it closes, and ends its operators
+abbrev pub around_closed : Bool → Level → Level
+around_closed true l = record l { operators = 0 }
+around_closed false l = l
+
 -- a bracket that closes leaves the level that surrounds the innermost; the file's level stays
 abbrev pub closed : Level → Bool → List Level → Levels
-closed l by_brace [] = record { innermost = l; others = []; ended = false }
-closed l by_brace (o ∷ os) = record { innermost = o; others = os; ended = by_brace && l.brace }
+closed l by_brace [] = record { innermost = around_closed by_brace l; others = []; ended = false }
+closed l by_brace (o ∷ os) = record { innermost = around_closed by_brace o; others = os; ended = by_brace && l.brace }
 
 abbrev pub counted : ℕ → Level → Level
 counted k l =

@@ -17,15 +17,15 @@ use Rattle.c_tree.specs.declared.statement.BlockItem.TheVariants as b
 use Rattle.c_tree.specs.declared.unit.Unit.{Unit as TheUnit}
 use Rattle.c_tree.specs.declared.unit.External.{External}
 use Rattle.c_tree.specs.declared.unit.External.TheVariants as x
-use Rattle.c_parser.specs.declared.start.Start.{Start}
-use Rattle.c_parser.specs.declared.start.Start.TheVariants as at
-use Rattle.c_parser.specs.declared.start.Naming.{Naming}
-use Rattle.c_parser.specs.declared.start.Naming.TheVariants as n
-use Rattle.c_parser.specs.Codes.{open_brace, close_brace, open_paren, close_paren, semicolon, equals, comma, break_word, continue_word, do_word, else_word, for_word, if_word, return_word, while_word, specifier_starts}
-use Rattle.c_parser.specs.Spelling.{push}
-use Rattle.c_parser.specs.Reading.{Reader, ◌>>=◌, ◌>>◌, ◌<$>◌, pure, stop, one, begins, until, choose, grown, behind_comma, listed, in_parens, specifiers, expr_at, declarator_at}
-use Rattle.c_parser.specs.Nodes.{Bytes}
-use Rattle.c_parser.specs.StatementNodes.{item_node, declaration_node, block_node, block_stmt, empty_stmt, expr_stmt, if_stmt, while_stmt, do_stmt, for_stmt, continue_stmt, break_stmt, return_stmt, function_node, unit_node}
+use Rattle.c_expr.specs.declared.start.Start.{Start}
+use Rattle.c_expr.specs.declared.start.Start.TheVariants as at
+use Rattle.c_expr.specs.declared.start.Naming.{Naming}
+use Rattle.c_expr.specs.declared.start.Naming.TheVariants as n
+use Rattle.c_expr.specs.Codes.{open_brace, close_brace, open_paren, close_paren, semicolon, equals, comma, break_word, continue_word, do_word, else_word, for_word, if_word, return_word, while_word, specifier_starts}
+use Rattle.c_expr.specs.Spelling.{push}
+use Rattle.c_expr.specs.Reading.{Reader, ◌>>=◌, ◌>>◌, ◌<$>◌, pure, stop, one, begins, until, choose, grown, behind_comma, listed, in_parens, specifiers, expr_at, declarator_at}
+use Rattle.c_expr.specs.Nodes.{Bytes}
+use Rattle.c_parser.specs.StatementNodes.{item_node, declaration_node, block_node, block_stmt, empty_stmt, expr_stmt, if_stmt, while_stmt, do_stmt, for_head, for_stmt, continue_stmt, break_stmt, return_stmt, function_node, unit_node}
 
 -- up to the end of the tokens
 abbrev pub ended : {A : Type 0} → A → Reader A
@@ -142,7 +142,7 @@ module _ (expr : Start → Reader Expr) (declarator : Naming → Reader Declarat
         step ← optional close_paren
         one close_paren
         body ← stmt
-        pure (for_stmt t.line start x step body)
+        pure (for_stmt t.line (for_head start x step) body)
 
       unfoldable pub return_statement : Reader Stmt
       return_statement = do

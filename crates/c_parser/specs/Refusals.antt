@@ -6,8 +6,8 @@ use Rattle.c_lexer.specs.declared.token.TokenKind.TheVariants.{Keyword, Punct}
 use Rattle.c_tree.specs.declared.unit.Unit.{Unit as TheUnit}
 use Rattle.c_parser.specs.declared.refusal.ParseRefusal.{ParseRefusal}
 use Rattle.c_parser.specs.declared.refusal.ParseRefusal.TheVariants.{Expected, LeftOut, TooDeep, Memory}
-use Rattle.c_parser.specs.Codes.{keyword, one_of, specifier_starts, sizeof_word, do_word, else_word, for_word, if_word, while_word, break_word, continue_word, return_word}
-use Rattle.c_parser.specs.Nodes.{Bytes}
+use Rattle.c_expr.specs.Codes.{keyword, one_of, specifier_starts, sizeof_word, do_word, else_word, for_word, if_word, while_word, break_word, continue_word, return_word}
+use Rattle.c_expr.specs.Nodes.{Bytes}
 use Rattle.c_parser.specs.Units.{Derives}
 use Rattle.c_parser.specs.Nesting.{first_too_deep}
 
@@ -35,10 +35,14 @@ place_in src (t ∷ rest) = t.start
 abbrev pub grammar_words : List ℕ
 grammar_words = specifier_starts ++ sizeof_word ∷ if_word ∷ else_word ∷ while_word ∷ do_word ∷ for_word ∷ return_word ∷ break_word ∷ continue_word ∷ []
 
--- `.`, `->`, `...`, and the other keywords
+-- the places of the punctuators that it has not: `.`, `->` and `...`
+abbrev pub left_out_marks : List ℕ
+left_out_marks = 6 ∷ 7 ∷ 33 ∷ []
+
+-- those, and the other keywords
 abbrev pub is_left_out : TokenKind → Bool
 is_left_out (Keyword i) = not (one_of grammar_words (keyword i))
-is_left_out (Punct i) = one_of (6 ∷ 7 ∷ 33 ∷ []) i
+is_left_out (Punct i) = one_of left_out_marks i
 is_left_out _ = false
 
 -- why the tokens stop in front of these

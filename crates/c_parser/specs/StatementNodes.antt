@@ -9,13 +9,14 @@ use Rattle.c_tree.specs.declared.declaration.Initializer.{Initializer}
 use Rattle.c_tree.specs.declared.statement.Stmt.{Stmt}
 use Rattle.c_tree.specs.declared.statement.StmtNode.{StmtNode}
 use Rattle.c_tree.specs.declared.statement.StmtNode.TheVariants as s
+use Rattle.c_tree.specs.declared.statement.ForHead.{ForHead}
 use Rattle.c_tree.specs.declared.statement.ForStart.{ForStart}
 use Rattle.c_tree.specs.declared.statement.Block.{Block, roll-Block}
 use Rattle.c_tree.specs.declared.statement.BlockItem.{BlockItem}
 use Rattle.c_tree.specs.declared.unit.Unit.{Unit as TheUnit}
 use Rattle.c_tree.specs.declared.unit.External.{External}
 use Rattle.c_tree.specs.declared.unit.External.TheVariants as x
-use Rattle.c_parser.specs.Nodes.{first_line}
+use Rattle.c_expr.specs.Nodes.{first_line}
 
 -- ---- declarations
 
@@ -51,8 +52,11 @@ while_stmt line x body = stmt_at line (s.While x body)
 abbrev pub do_stmt : ℕ → Stmt → Expr → Stmt
 do_stmt line body x = stmt_at line (s.Do body x)
 
-abbrev pub for_stmt : ℕ → ForStart → Option Expr → Option Expr → Stmt → Stmt
-for_stmt line start x step body = stmt_at line (s.For start x step body)
+abbrev pub for_head : ForStart → Option Expr → Option Expr → ForHead
+for_head start x step = record { start = start; condition = x; step = step }
+
+abbrev pub for_stmt : ℕ → ForHead → Stmt → Stmt
+for_stmt line head body = stmt_at line (s.For head body)
 
 abbrev pub continue_stmt : ℕ → Stmt
 continue_stmt line = stmt_at line s.Continue
@@ -66,7 +70,7 @@ return_stmt line x = stmt_at line (s.Return x)
 -- ---- units
 
 abbrev pub function_node : List Specifier → Declarator → Block → External
-function_node specifiers declarator body = x.Function (first_line specifiers) specifiers declarator body
+function_node specifiers declarator body = x.Function (record { line = first_line specifiers; specifiers = specifiers; declarator = declarator; body = body })
 
 abbrev pub unit_node : List External → TheUnit
 unit_node externals = record { externals = externals }

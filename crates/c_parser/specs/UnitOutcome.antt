@@ -6,13 +6,13 @@ use Rattle.c_lexer.specs.declared.token.Token.{Token}
 use Rattle.c_tree.specs.declared.expression.Expr.{Expr}
 use Rattle.c_tree.specs.declared.expression.Declarator.{Declarator}
 use Rattle.c_tree.specs.declared.statement.Stmt.{Stmt}
-use Rattle.c_parser.specs.declared.fault.Fault.{Fault}
-use Rattle.c_parser.specs.declared.start.Start.{Start}
-use Rattle.c_parser.specs.declared.start.Naming.{Naming}
-use Rattle.c_parser.specs.Nodes.{Bytes}
-use Rattle.c_parser.specs.Reading.{Reader, expr_at, declarator_at}
+use Rattle.c_expr.specs.declared.fault.Fault.{Fault}
+use Rattle.c_expr.specs.declared.start.Start.{Start}
+use Rattle.c_expr.specs.declared.start.Naming.{Naming}
+use Rattle.c_expr.specs.Nodes.{Bytes}
+use Rattle.c_expr.specs.Reading.{Reader, expr_at, declarator_at}
 use Rattle.c_parser.specs.ReadingUnits.{statement_at}
-use Rattle.c_parser.specs.Outcome.{Gives, seen}
+use Rattle.c_expr.specs.Outcome.{Gives, seen}
 
 -- a line of the grammar of declarations, statements or units, at a source and a depth
 abbrev pub at_source : {A : Type 0} → ((Start → Reader Expr) → (Naming → Reader Declarator) → A) → Bytes → ℕ → A

@@ -9,13 +9,13 @@ use Rattle.c_tree.specs.declared.declaration.Initializer.{Initializer}
 use Rattle.c_tree.specs.declared.declaration.Initializer.TheVariants as i
 use Rattle.c_tree.specs.declared.statement.Stmt.{Stmt}
 use Rattle.c_tree.specs.declared.unit.External.{External}
-use Rattle.c_parser.specs.declared.start.Start.{Start}
-use Rattle.c_parser.specs.declared.start.Start.TheVariants as at
-use Rattle.c_parser.specs.declared.start.Naming.{Naming}
-use Rattle.c_parser.specs.Codes.{comma, semicolon, else_word, specifier_starts}
-use Rattle.c_parser.specs.Spelling.{push}
+use Rattle.c_expr.specs.declared.start.Start.{Start}
+use Rattle.c_expr.specs.declared.start.Start.TheVariants as at
+use Rattle.c_expr.specs.declared.start.Naming.{Naming}
+use Rattle.c_expr.specs.Codes.{comma, semicolon, else_word, specifier_starts}
+use Rattle.c_expr.specs.Spelling.{push}
 use Rattle.c_parser.specs.StatementNodes.{item_node, declaration_node, block_stmt, empty_stmt}
-use Rattle.c_parser.specs.Reading.{Reader, ◌>>=◌, ◌>>◌, ◌<$>◌, pure, one, begins, choose, grown, behind_comma}
+use Rattle.c_expr.specs.Reading.{Reader, ◌>>=◌, ◌>>◌, ◌<$>◌, pure, one, begins, choose, grown, behind_comma}
 use Rattle.c_parser.specs.ReadingUnits.{item, given, further_items, block, external}
 
 -- `;` alone

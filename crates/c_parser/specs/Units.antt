@@ -17,15 +17,15 @@ use Rattle.c_tree.specs.declared.statement.BlockItem.TheVariants as b
 use Rattle.c_tree.specs.declared.unit.Unit.{Unit as TheUnit}
 use Rattle.c_tree.specs.declared.unit.External.{External}
 use Rattle.c_tree.specs.declared.unit.External.TheVariants as x
-use Rattle.c_parser.specs.declared.start.Start.{Start}
-use Rattle.c_parser.specs.declared.start.Start.TheVariants as at
-use Rattle.c_parser.specs.declared.start.Naming.{Naming}
-use Rattle.c_parser.specs.declared.start.Naming.TheVariants as n
-use Rattle.c_parser.specs.Codes.{open_brace, close_brace, open_paren, close_paren, semicolon, equals, break_word, continue_word, do_word, else_word, for_word, if_word, return_word, while_word}
-use Rattle.c_parser.specs.Spelling.{Spelling, One, Is, ◌>>=◌, ◌>>◌, ◌<$>◌, ◌or◌, Never, Further, Listed, Maybe, In_parens}
-use Rattle.c_parser.specs.Grammar.{IsSpecifiers, ExprAt, DeclaratorAt}
-use Rattle.c_parser.specs.Nodes.{Bytes}
-use Rattle.c_parser.specs.StatementNodes.{item_node, declaration_node, block_node, block_stmt, empty_stmt, expr_stmt, if_stmt, while_stmt, do_stmt, for_stmt, continue_stmt, break_stmt, return_stmt, function_node, unit_node}
+use Rattle.c_expr.specs.declared.start.Start.{Start}
+use Rattle.c_expr.specs.declared.start.Start.TheVariants as at
+use Rattle.c_expr.specs.declared.start.Naming.{Naming}
+use Rattle.c_expr.specs.declared.start.Naming.TheVariants as n
+use Rattle.c_expr.specs.Codes.{open_brace, close_brace, open_paren, close_paren, semicolon, equals, break_word, continue_word, do_word, else_word, for_word, if_word, return_word, while_word}
+use Rattle.c_expr.specs.Spelling.{Spelling, One, Is, ◌>>=◌, ◌>>◌, ◌<$>◌, ◌or◌, Never, Further, Listed, Maybe, In_parens}
+use Rattle.c_expr.specs.Grammar.{IsSpecifiers, ExprAt, DeclaratorAt}
+use Rattle.c_expr.specs.Nodes.{Bytes}
+use Rattle.c_parser.specs.StatementNodes.{item_node, declaration_node, block_node, block_stmt, empty_stmt, expr_stmt, if_stmt, while_stmt, do_stmt, for_head, for_stmt, continue_stmt, break_stmt, return_stmt, function_node, unit_node}
 
 -- an expression or a declarator, at whichever depth
 abbrev pub AnyExpr : Bytes → Start → Spelling Expr
@@ -149,7 +149,7 @@ module _ (src : Bytes) where
       step ← IsOptional
       One close_paren
       body ← IsStmt
-      Is (for_stmt t.line start x step body.0, body.1)
+      Is (for_stmt t.line (for_head start x step) body.0, body.1)
 
     -- jump-statement
     abbrev pub IsContinue : Spelling Stmt

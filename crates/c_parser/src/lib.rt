@@ -2,30 +2,23 @@
 //! stop being one.
 #![tactic(auto)]
 
-mod codes;
-mod declarator;
-mod expression;
-mod fault;
-mod grammar;
-mod hub;
 mod law;
-mod leaf;
 mod nesting;
 mod parser;
 mod refusal;
 mod source;
-mod start;
 mod statement;
-mod tokens;
 mod unit;
 
+pub use c_expr::{one_expression, spellings};
 pub use c_tree::{
-    BinaryOp, Block, BlockItem, Declaration, Declarator, Direct, Expr, ExprNode, External,
-    ForStart, Initializer, Item, Name, Parameter, Pointer, PostfixOp, PrefixOp, Specifier,
-    SpecifierWord, Stmt, StmtNode, Suffix, TypeName, Unit,
+    BinaryOp, Block, BlockItem, CompoundOp, Declaration, Declarator, Direct, Expr, ExprNode,
+    External, ForHead, ForStart, FunctionDefinition, Initializer, Item, Name, Parameter, Pointer,
+    PostfixOp, PrefixOp, Specifier, SpecifierWord, Stmt, StmtNode, Suffix, TypeName, Unit,
 };
 pub use law::{
-    one_expression, one_refusal, one_unit, refusal_excludes_unit, refused_front_begins_unit,
+    one_refusal, one_unit, operators_of_levels, refusal_excludes_unit, refused_front_begins_unit,
+    words_of_the_grammar,
 };
 pub use parser::parse;
 pub use refusal::ParseRefusal;

@@ -4,11 +4,11 @@ ghost use Rattle.std.specs.Prelude.{◌≡◌, false, ◌+◌, ◌<◌, ◌≤�
 ghost use Rattle.c_parser.specs.Nesting as spec;
 ghost use Rattle.c_parser.specs.LevelStack.{levels_of, IsCounted, IsTame, AreTame};
 
-use crate::codes::{
+use c_expr::codes::{
     CLOSE_BRACE, CLOSE_BRACKET, CLOSE_PAREN, COMMA, DO, ELSE, FOR, IF, OPEN_BRACE, OPEN_BRACKET,
     OPEN_PAREN, PUNCT, SEMICOLON, SIZEOF, WHILE, code,
 };
-use crate::tokens::one_of;
+use c_expr::tokens::one_of;
 use c_lexer::Token;
 use std::alloc::{AllocError, Global};
 
@@ -109,6 +109,20 @@ impl Level {
         }
     }
 
+    /// What surrounds a bracket that closes; a `}` ends its operators.
+    fn around_closed(self, by_brace: bool) -> Level
+        ensures { result ≡ spec.around_closed by_brace self }
+    {
+        if by_brace {
+            Level {
+                operators: 0,
+                ..self
+            }
+        } else {
+            self
+        }
+    }
+
     fn weight(self) -> usize
         requires operators { self.operators < 2000 }
         requires words { self.words < 2000 }
@@ -168,12 +182,12 @@ impl LevelStack {
     {
         match self.others.pop() {
             None => {
-                self.innermost = here;
+                self.innermost = here.around_closed(by_brace);
                 self.ended = false;
             }
             Some(around) => {
                 self.outer -= 1 + around.weight();
-                self.innermost = around;
+                self.innermost = around.around_closed(by_brace);
                 self.ended = by_brace && here.brace;
             }
         }

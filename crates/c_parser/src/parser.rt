@@ -8,12 +8,12 @@ ghost use Rattle.c_parser.specs.Nesting as nesting;
 ghost use Rattle.c_parser.specs.Refusals as refusals;
 ghost use Rattle.c_parser.specs.Answers.{Answers, IsUnitWithin, UnlessMemory};
 
-use crate::codes::{GRAMMAR_WORDS, code};
-use crate::fault::Fault;
 use crate::nesting::first_too_deep;
 use crate::refusal::ParseRefusal;
-use crate::tokens::one_of;
 use crate::unit::unit;
+use c_expr::Fault;
+use c_expr::codes::{GRAMMAR_WORDS, code};
+use c_expr::tokens::one_of;
 use c_lexer::{Token, TokenKind};
 use c_tree::Unit;
 use std::alloc::Global;

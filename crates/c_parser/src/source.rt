@@ -1,24 +1,21 @@
 //! A source whose tokens are read, and its declarations (C11 6.7).
 
 ghost use Rattle.std.specs.Prelude.{◌≡◌, ◌++◌, [], length};
-ghost use Rattle.c_parser.specs.declared.start.Naming.TheVariants as naming;
-ghost use Rattle.c_parser.specs.Reading as reading;
+ghost use Rattle.c_expr.specs.declared.start.Naming.TheVariants as naming;
+ghost use Rattle.c_expr.specs.Reading as reading;
 ghost use Rattle.c_parser.specs.ReadingUnits as units;
 ghost use Rattle.c_parser.specs.UnitParts as parts;
-ghost use Rattle.c_parser.specs.Outcome.{Gives, seen};
+ghost use Rattle.c_expr.specs.Outcome.{Gives, seen};
 ghost use Rattle.c_parser.specs.UnitOutcome.{at_source};
 
-use crate::codes::{
+use c_expr::codes::{
     CLOSE_BRACE, CLOSE_PAREN, COMMA, EQUALS, OPEN_BRACE, OPEN_PAREN, SEMICOLON, SPECIFIER_WORDS,
 };
-use crate::declarator::{first_line, specifiers};
-use crate::fault::{Fault, Read};
-use crate::hub::{declarator_at, expr_at};
-use crate::start::{Naming, Start};
-use crate::tokens::{begins, begins_in, one};
+use c_expr::tokens::{begins, begins_in, one};
+use c_expr::{Fault, Naming, Read, Start, declarator_at, expr_at, first_line, specifiers};
 use c_lexer::Token;
 use c_tree::{Declaration, Declarator, Expr, ForStart, Initializer, Item, Specifier};
-use sqlite_items::Items;
+use sqlite_items::{Boxed, Items};
 use std::alloc::Global;
 
 /// A source, and how often a line of the grammar may lead back to itself there.
@@ -30,7 +27,8 @@ pub struct Source<'s> {
 }
 
 impl<'s> Source<'s> {
-    pub fn expr<'t>(&self, start: Start, tokens: &'t [Token]) -> Read<'t, Expr>
+    /// An expression from a line of its grammar on.
+    pub fn expr<'t>(&self, start: Start, tokens: &'t [Token]) -> Read<'t, Boxed<Expr>>
         ensures { Gives seen result (reading.expr_at self.now.src.now self.now.depth start tokens.now) }
     {
         expr_at(self.alloc, self.src, self.depth, start, tokens)
@@ -78,7 +76,7 @@ impl<'s> Source<'s> {
 
     /// At least one initializer.
     #[cycle(initializer)]
-    #[tactic(auto, unfolding(crate::specs::Reading::grown_from))]
+    #[tactic(auto, unfolding(c_expr::specs::Reading::grown_from))]
     fn initializers<'t>(&self, left: usize, tokens: &'t [Token]) -> Read<'t, Items<Initializer>>
         ensures { Gives seen result (reading.listed (at_source units.initializer_at self.now.src.now self.now.depth left) tokens.now) }
     {
@@ -146,7 +144,7 @@ impl<'s> Source<'s> {
     }
 
     /// The items behind those before, without the `;`.
-    #[tactic(auto, unfolding(crate::specs::Reading::grown_from))]
+    #[tactic(auto, unfolding(c_expr::specs::Reading::grown_from))]
     fn items_behind<'t>(&self, before: Items<Item>, tokens: &'t [Token]) -> Read<'t, Items<Item>>
         ensures { Gives seen result (at_source parts.items_behind self.now.src.now self.now.depth self.now.depth before tokens.now) }
     {
@@ -180,8 +178,7 @@ impl<'s> Source<'s> {
     {
         let (specifiers, rest) = specifiers(self.alloc, tokens)?;
         let (first, rest) = self.item(rest)?;
-        let mut items = Items::new(self.alloc);
-        items.push(first)?;
+        let items = Items::from_vec(Vec::from_array(self.alloc, [first])?);
         let (items, rest) = self.further_items(items, rest)?;
         let line = first_line(&specifiers);
         let declaration = Declaration {
@@ -202,11 +199,11 @@ impl<'s> Source<'s> {
         ensures { Gives seen result (at_source parts.other_items self.now.src.now self.now.depth self.now.depth specifiers declarator tokens.now) }
     {
         let (initializer, rest) = self.given(tokens)?;
-        let mut items = Items::new(self.alloc);
-        items.push(Item {
+        let first = Item {
             declarator,
             initializer,
-        })?;
+        };
+        let items = Items::from_vec(Vec::from_array(self.alloc, [first])?);
         let (items, rest) = self.further_items(items, rest)?;
         let line = first_line(&specifiers);
         let declaration = Declaration {
@@ -218,7 +215,7 @@ impl<'s> Source<'s> {
     }
 
     /// An expression, or nothing before a token of this kind.
-    pub fn optional<'t>(&self, end: u16, tokens: &'t [Token]) -> Read<'t, Option<Expr>>
+    pub fn optional<'t>(&self, end: u16, tokens: &'t [Token]) -> Read<'t, Option<Boxed<Expr>>>
         ensures { Gives seen result (at_source units.optional self.now.src.now self.now.depth self.now.depth end tokens.now) }
     {
         if begins(&[end], tokens) {
@@ -236,7 +233,7 @@ impl<'s> Source<'s> {
         let (_open, rest) = one(OPEN_PAREN, tokens)?;
         let (expr, rest) = self.expr(Start::Expression, rest)?;
         let (_close, rest) = one(CLOSE_PAREN, rest)?;
-        Ok((expr, rest))
+        Ok((expr.into_inner(), rest))
     }
 
     /// What a `for` statement does first.
@@ -246,6 +243,7 @@ impl<'s> Source<'s> {
     {
         if begins_in(&SPECIFIER_WORDS, tokens) {
             let (declaration, rest) = self.declaration(tokens)?;
+            let declaration = Boxed::new(self.alloc, declaration)?;
             return Ok((ForStart::Declaration(declaration), rest));
         }
         let (expr, rest) = self.optional(SEMICOLON, tokens)?;

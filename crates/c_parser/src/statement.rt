@@ -1,23 +1,22 @@
 //! Statements (C11 6.8).
 
 ghost use Rattle.std.specs.Prelude.{◌≡◌};
-ghost use Rattle.c_parser.specs.Reading as reading;
+ghost use Rattle.c_expr.specs.Reading as reading;
 ghost use Rattle.c_parser.specs.ReadingUnits as units;
 ghost use Rattle.c_parser.specs.UnitParts as parts;
 ghost use Rattle.c_parser.specs.ForParts as loop_parts;
-ghost use Rattle.c_parser.specs.Outcome.{Gives, seen};
+ghost use Rattle.c_expr.specs.Outcome.{Gives, seen};
 ghost use Rattle.c_parser.specs.UnitOutcome.{at_statement, statement_of, LeadsToStatement};
 
-use crate::codes::{
+use crate::source::Source;
+use c_expr::codes::{
     BREAK, CLOSE_BRACE, CLOSE_PAREN, CONTINUE, DO, ELSE, FOR, IF, OPEN_BRACE, OPEN_PAREN, RETURN,
     SEMICOLON, SPECIFIER_WORDS, WHILE, code,
 };
-use crate::fault::{Fault, Read};
-use crate::source::Source;
-use crate::start::Start;
-use crate::tokens::{begins, begins_in, one};
+use c_expr::tokens::{begins, begins_in, one};
+use c_expr::{Fault, Read, Start};
 use c_lexer::Token;
-use c_tree::{Block, BlockItem, Expr, ForStart, Stmt, StmtNode};
+use c_tree::{Block, BlockItem, Expr, ForHead, ForStart, Stmt, StmtNode};
 use sqlite_items::{Boxed, Items};
 
 /// The lines of the grammar of statements, with the function that they lead back to.
@@ -57,7 +56,7 @@ where
     }
 
     /// What stands between the braces of a block.
-    #[tactic(auto, unfolding(crate::specs::ReadingUnits::block_items, crate::specs::Reading::grown_from))]
+    #[tactic(auto, unfolding(crate::specs::ReadingUnits::block_items, c_expr::specs::Reading::grown_from))]
     fn block_items<'t>(&self, tokens: &'t [Token]) -> Read<'t, Items<BlockItem>>
         requires { LeadsToStatement S.Fn self.now.stmt self.now.source.src.now self.now.source.depth self.now.left }
         ensures { Gives seen result (at_statement units.block_items self.now.source.src.now self.now.source.depth self.now.left tokens.now) }
@@ -112,6 +111,7 @@ where
     {
         let (expr, rest) = self.source.expr(Start::Expression, tokens)?;
         let (_semicolon, rest) = one(SEMICOLON, rest)?;
+        let expr = expr.into_inner();
         let line = expr.line;
         let node = StmtNode::Expr(expr);
         Ok((Stmt { line, node }, rest))
@@ -208,21 +208,14 @@ where
 
     /// The body of a `for` statement, with what stands before.
     #[tactic(auto, unfolding(crate::specs::StatementNodes::stmt_at))]
-    fn for_body<'t>(
-        &self,
-        line: u32,
-        start: ForStart,
-        condition: Option<Expr>,
-        step: Option<Expr>,
-        tokens: &'t [Token],
-    ) -> Read<'t, Stmt>
+    fn for_body<'t>(&self, line: u32, head: ForHead, tokens: &'t [Token]) -> Read<'t, Stmt>
         requires { LeadsToStatement S.Fn self.now.stmt self.now.source.src.now self.now.source.depth self.now.left }
-        ensures { Gives seen result (at_statement loop_parts.for_body self.now.source.src.now self.now.source.depth self.now.left line start condition step tokens.now) }
+        ensures { Gives seen result (at_statement loop_parts.for_body self.now.source.src.now self.now.source.depth self.now.left line head tokens.now) }
     {
         let (body, rest) = self.inner(tokens)?;
         let stmt = Stmt {
             line,
-            node: StmtNode::For(start, condition, step, body),
+            node: StmtNode::For(head, body),
         };
         Ok((stmt, rest))
     }
@@ -232,7 +225,7 @@ where
         &self,
         line: u32,
         start: ForStart,
-        condition: Option<Expr>,
+        condition: Option<Boxed<Expr>>,
         tokens: &'t [Token],
     ) -> Read<'t, Stmt>
         requires { LeadsToStatement S.Fn self.now.stmt self.now.source.src.now self.now.source.depth self.now.left }
@@ -240,7 +233,12 @@ where
     {
         let (step, rest) = self.source.optional(CLOSE_PAREN, tokens)?;
         let (_close, rest) = one(CLOSE_PAREN, rest)?;
-        let (stmt, rest) = self.for_body(line, start, condition, step, rest)?;
+        let head = ForHead {
+            start,
+            condition,
+            step,
+        };
+        let (stmt, rest) = self.for_body(line, head, rest)?;
         Ok((stmt, rest))
     }
 
@@ -279,7 +277,7 @@ where
         let (_semicolon, rest) = one(SEMICOLON, rest)?;
         let stmt = Stmt {
             line: word.line,
-            node: StmtNode::Return(value),
+            node: StmtNode::Return(unboxed(value)),
         };
         Ok((stmt, rest))
     }
@@ -362,8 +360,18 @@ where
     }
 }
 
+/// An expression without its box, if there is one.
+fn unboxed(expr: Option<Boxed<Expr>>) -> Option<Expr>
+    ensures { result ≡ expr }
+{
+    match expr {
+        None => None,
+        Some(expr) => Some(expr.into_inner()),
+    }
+}
+
 /// Whether there is a token, and not one of this kind.
-#[tactic(auto, unfolding(crate::specs::Reading::until))]
+#[tactic(auto, unfolding(c_expr::specs::Reading::until))]
 pub fn until(end: u16, tokens: &[Token]) -> bool
     ensures { result ≡ reading.until end tokens.now }
 {

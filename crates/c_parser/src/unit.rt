@@ -2,21 +2,18 @@
 
 ghost use Rattle.std.specs.Prelude.{◌≡◌, [], length};
 ghost use Rattle.c_parser.specs.ReadingUnits as units;
-ghost use Rattle.c_parser.specs.Outcome.{Gives, seen};
+ghost use Rattle.c_expr.specs.Outcome.{Gives, seen};
 ghost use Rattle.c_parser.specs.UnitParts as parts;
 ghost use Rattle.c_parser.specs.UnitOutcome.{at_source, at_statement, statement_of};
 
-use crate::codes::{OPEN_BRACE, SPECIFIER_WORDS};
-use crate::declarator::{first_line, specifiers};
-use crate::fault::{Fault, Read};
-use crate::hub::declarator_at;
 use crate::source::Source;
-use crate::start::Naming;
 use crate::statement::Statements;
-use crate::tokens::{begins, begins_in};
+use c_expr::codes::{OPEN_BRACE, SPECIFIER_WORDS};
+use c_expr::tokens::{begins, begins_in};
+use c_expr::{Fault, Naming, Read, declarator_at, first_line, specifiers};
 use c_lexer::Token;
-use c_tree::{Block, Declarator, External, Specifier, Stmt, Unit};
-use sqlite_items::Items;
+use c_tree::{Block, Declarator, External, FunctionDefinition, Specifier, Stmt, Unit};
+use sqlite_items::{Boxed, Items};
 use std::alloc::Global;
 
 /// A statement, which leads back to statements so many times at most.
@@ -65,7 +62,14 @@ fn function<'t>(
 {
     let (body, rest) = body(source, tokens)?;
     let line = first_line(&specifiers);
-    Ok((External::Function(line, specifiers, declarator, body), rest))
+    let definition = FunctionDefinition {
+        line,
+        specifiers,
+        declarator,
+        body,
+    };
+    let function = External::Function(Boxed::new(source.alloc, definition)?);
+    Ok((function, rest))
 }
 
 /// Declarations behind their specifiers and their first declarator.
@@ -79,7 +83,8 @@ fn other<'t>(
     ensures { Gives seen result (at_source units.other_items source.entry.src.now source.entry.depth source.entry.depth specifiers declarator tokens.now) }
 {
     let (declaration, rest) = source.other_items(specifiers, declarator, tokens)?;
-    Ok((External::Declaration(declaration), rest))
+    let declaration = External::Declaration(Boxed::new(source.alloc, declaration)?);
+    Ok((declaration, rest))
 }
 
 /// C11 6.9
@@ -103,7 +108,7 @@ fn external<'t>(source: Source<'_>, tokens: &'t [Token]) -> Read<'t, External>
 }
 
 /// The externals that the tokens begin with.
-#[tactic(auto, unfolding(crate::specs::Reading::grown_from))]
+#[tactic(auto, unfolding(c_expr::specs::Reading::grown_from))]
 fn externals<'t>(source: Source<'_>, tokens: &'t [Token]) -> Read<'t, Items<External>>
     ensures { Gives seen result (at_source parts.externals source.entry.src.now source.entry.depth source.entry.depth tokens.now) }
 {

@@ -1,16 +1,8 @@
 //! How long the tokens and the tree of a source take.
 //!
 //! The only argument names the source. How many tokens and externals it has goes to standard output, and how
-//! long both took to standard error, so that standard output is the same in each run. The parser's rows are
-//! tested here too, over the public calls of `c_lexer` and `c_parser`.
+//! long both took to standard error, so that standard output is the same in each run.
 #![tactic(auto)]
-
-#[cfg(test)]
-mod accepted;
-#[cfg(test)]
-mod refusals;
-#[cfg(test)]
-mod tests;
 
 use anyhow::{Result, bail};
 use c_lexer::tokens;

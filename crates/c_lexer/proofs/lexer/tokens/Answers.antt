@@ -2,6 +2,7 @@ use Rattle.std.proofs.Common.{◌≡◌, ◌<◌, true, length, Err, sym, ap, �
 use Rattle.std.proofs.lemmas.Result.{err_from_is_err_and}
 use Rattle.c_lexer.specs.Tokens.{Lexes, Refuses}
 use Rattle.c_lexer.proofs.Sources.{found_fault, refuses_now, lexes_end, goes_on_to, fails_on_to, lexes_once, lexes_or_refuses, refused_from, only_from, first_from}
+use Rattle.c_lexer.proofs.Feeds.{line_now}
 use Rattle.c_lexer.proofs.Wholes.{lexes_within, lexes_have}
 use Rattle.c_lexer.proofs.lexer.tokens.Goals as goal
 
@@ -13,17 +14,17 @@ fault c =
     c.loop-rest.invariant.fails_on c.in_err-piece.field-0.0
     (refuses_now place.is_first place.at rest c.in_err-piece.field-0.0 (found_fault place.is_first place.at rest c.in_err-piece.field-0.0 (grind arith) (sym c.in_err-piece.ensures.value)))
 
-result_is : (c : goal.After-drop-kept) → c.from_residual.result ≡ Err c.in_err-piece.field-0.0
-result_is c = let p = err_from_is_err_and c.from_residual.result c.from_residual.ensures.1 in p.1 ∙ ap Err p.2
+result_is : (c : goal.After-drop-kept) → c.from_residual-in_err-piece.result ≡ Err c.in_err-piece.field-0.0
+result_is c = let p = err_from_is_err_and c.from_residual-in_err-piece.result c.from_residual-in_err-piece.ensures.1 in p.1 ∙ ap Err p.2
 
 pub returns-in_err-piece-clause-refused : goal.returns-in_err-piece-clause-refused
-returns-in_err-piece-clause-refused c = refused_from c.args.src.now c.from_residual.result c.in_err-piece.field-0.0 (result_is c) (fault c)
+returns-in_err-piece-clause-refused c = refused_from c.args.src.now c.from_residual-in_err-piece.result c.in_err-piece.field-0.0 (result_is c) (fault c)
 
 pub returns-in_err-piece-clause-only : goal.returns-in_err-piece-clause-only
-returns-in_err-piece-clause-only c = λ list l. only_from (λ found. found.items ≡ list) c.args.src.now c.from_residual.result c.in_err-piece.field-0.0 (result_is c) (fault c) list l
+returns-in_err-piece-clause-only c = λ list l. only_from (λ found. found.items ≡ list) c.args.src.now c.from_residual-in_err-piece.result c.in_err-piece.field-0.0 (result_is c) (fault c) list l
 
 pub returns-in_err-piece-clause-first : goal.returns-in_err-piece-clause-first
-returns-in_err-piece-clause-first c = first_from c.args.src.now c.from_residual.result c.in_err-piece.field-0.0 (result_is c) (fault c)
+returns-in_err-piece-clause-first c = first_from c.args.src.now c.from_residual-in_err-piece.result c.in_err-piece.field-0.0 (result_is c) (fault c)
 
 pub loop-rest-preserved : goal.loop-rest-preserved
 loop-rest-preserved c =
@@ -34,7 +35,8 @@ loop-rest-preserved c =
     let fits = c.in_ok-piece.ensures.within.1 in
     record {
       goes_on = goes_on_to c.args.src.now c.loop-rest.kept.items c.keep.new.kept.items place.is_first next.is_first place.at next.at place.line next.line bytes c.split_at.result.0.now c.split_at.result.1.now c.in_ok-piece.piece c.in_ok-piece.len
-          some fits (sym c.in_ok-piece.ensures.value) c.split_at.ensures.front c.split_at.ensures.back c.past-next.ensures.first c.past-next.ensures.at c.past-next.ensures.line c.in_ok-keep.ensures.ok c.loop-rest.invariant.goes_on;
+          some fits (sym c.in_ok-piece.ensures.value) c.split_at.ensures.front c.split_at.ensures.back c.past-next.ensures.first c.past-next.ensures.at
+          (line_now place.is_first place.at place.line bytes c.split_at.result.0.now c.in_ok-piece.piece c.in_ok-piece.len next.line some (sym c.in_ok-piece.ensures.value) c.split_at.ensures.front c.past-next.ensures.line) c.in_ok-keep.ensures.ok c.loop-rest.invariant.goes_on;
       fails_on = fails_on_to c.args.src.now place.is_first next.is_first place.at next.at bytes c.split_at.result.0.now c.split_at.result.1.now c.in_ok-piece.piece c.in_ok-piece.len
           some fits (sym c.in_ok-piece.ensures.value) c.split_at.ensures.front c.split_at.ensures.back c.past-next.ensures.first c.past-next.ensures.at c.loop-rest.invariant.fails_on;
       at = omega (arith, c.split_at.ensures.back_len, c.split_at.ensures.front_len);

@@ -1,10 +1,10 @@
 use Rattle.std.proofs.Common.{◌∙◌, arith, rules}
-use Rattle.c_parser.specs.Codes.{specifier_starts}
-use Rattle.c_parser.specs.Spelling.{push}
-use Rattle.c_parser.specs.Reading.{begins}
+use Rattle.c_expr.specs.Codes.{specifier_starts}
+use Rattle.c_expr.specs.Spelling.{push}
+use Rattle.c_expr.specs.Reading.{begins}
 use Rattle.c_parser.specs.ReadingUnits as units
 use Rattle.c_parser.specs.UnitOutcome.{at_source}
-use Rattle.c_parser.proofs.Loops.{grown_turn}
+use Rattle.c_expr.proofs.Loops.{grown_turn}
 use Rattle.c_parser.proofs.unit.externals.Goals as goal
 
 pub loop-turn-preserved : goal.loop-turn-preserved

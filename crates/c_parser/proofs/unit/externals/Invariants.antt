@@ -1,8 +1,8 @@
 use Rattle.std.proofs.Common.{◌≡◌, ◌-◌}
-use Rattle.c_parser.specs.Codes.{specifier_starts}
-use Rattle.c_parser.specs.Spelling.{push}
-use Rattle.c_parser.specs.Reading as reading
-use Rattle.c_parser.specs.Reading.{begins, until}
+use Rattle.c_expr.specs.Codes.{specifier_starts}
+use Rattle.c_expr.specs.Spelling.{push}
+use Rattle.c_expr.specs.Reading as reading
+use Rattle.c_expr.specs.Reading.{begins, until}
 use Rattle.c_parser.specs.ReadingUnits as units
 use Rattle.c_parser.specs.UnitParts as parts
 use Rattle.c_parser.specs.UnitOutcome.{at_source}

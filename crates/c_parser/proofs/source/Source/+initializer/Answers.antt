@@ -1,11 +1,11 @@
 use Rattle.std.proofs.Common.{◌∙◌, [], ◌∷◌, arith, rules}
-use Rattle.c_parser.specs.Codes.{comma}
-use Rattle.c_parser.specs.Spelling.{push}
-use Rattle.c_parser.specs.Reading as reading
-use Rattle.c_parser.specs.Reading.{begins, until}
+use Rattle.c_expr.specs.Codes.{comma}
+use Rattle.c_expr.specs.Spelling.{push}
+use Rattle.c_expr.specs.Reading as reading
+use Rattle.c_expr.specs.Reading.{begins, until}
 use Rattle.c_parser.specs.ReadingUnits as units
 use Rattle.c_parser.specs.UnitOutcome.{at_source}
-use Rattle.c_parser.proofs.Loops.{grown_turn}
+use Rattle.c_expr.proofs.Loops.{grown_turn}
 use Rattle.c_parser.proofs.source.Source.+initializer.Goals as goal
 
 pub initializers-loop-turn-preserved : goal.initializers-loop-turn-preserved

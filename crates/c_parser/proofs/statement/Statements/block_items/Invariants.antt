@@ -1,8 +1,8 @@
 use Rattle.std.proofs.Common.{◌≡◌, ◌-◌}
-use Rattle.c_parser.specs.Codes.{close_brace}
-use Rattle.c_parser.specs.Spelling.{push}
-use Rattle.c_parser.specs.Reading as reading
-use Rattle.c_parser.specs.Reading.{until}
+use Rattle.c_expr.specs.Codes.{close_brace}
+use Rattle.c_expr.specs.Spelling.{push}
+use Rattle.c_expr.specs.Reading as reading
+use Rattle.c_expr.specs.Reading.{until}
 use Rattle.c_parser.specs.ReadingUnits as units
 use Rattle.c_parser.specs.UnitOutcome.{at_statement}
 use Rattle.c_parser.proofs.statement.Statements.block_items.Given as goal

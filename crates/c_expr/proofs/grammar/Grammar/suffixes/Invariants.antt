@@ -1,0 +1,12 @@
+use Rattle.std.proofs.Common.{◌≡◌, ◌-◌}
+use Rattle.c_expr.specs.Codes.{suffix_starts}
+use Rattle.c_expr.specs.Spelling.{push}
+use Rattle.c_expr.specs.Reading as reading
+use Rattle.c_expr.specs.Reading.{begins}
+use Rattle.c_expr.specs.Outcome.{at_depth}
+use Rattle.c_expr.proofs.grammar.Grammar.suffixes.Given as goal
+
+abbrev pub invariant-loop-turn : goal.invariant-loop-turn
+invariant-loop-turn g l =
+    reading.grown_from (begins suffix_starts) push (at_depth reading.suffix l.self.src.now l.self.depth) (l._turn-end - l._turn) l.found l.rest
+    ≡ at_depth reading.suffixes l.self.src.now l.self.depth l.fn.before l.fn.tokens
