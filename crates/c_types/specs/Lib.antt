@@ -1,0 +1,3 @@
+pub mod Types
+pub mod Conversions
+pub mod Rules
