@@ -1,3 +1,5 @@
 pub mod Types
 pub mod Conversions
 pub mod Rules
+pub mod Hashing
+pub mod Table

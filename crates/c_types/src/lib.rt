@@ -4,6 +4,10 @@
 
 mod form;
 mod qualifiers;
+mod table;
+mod type_ref;
 
 pub use form::{BinaryForm, ChoiceForm, Conversion};
 pub use qualifiers::Qualifiers;
+pub use table::Types;
+pub use type_ref::{QualifiedRef, Row, TypeRef};
