@@ -7,11 +7,14 @@ use Rattle.c_types.specs.declared.type_ref.TypeRef.{TypeRef}
 use Rattle.c_types.specs.declared.type_ref.Row.{Row}
 use Rattle.c_types.specs.declared.type_ref.Row.TheVariants.{Pointer, Array, Returning, Taking}
 use Rattle.c_types.specs.declared.type_ref.QualifiedRef.{QualifiedRef}
+use Rattle.c_types.specs.declared.type_ref.Size.{Size}
 use Rattle.c_types.specs.declared.qualifiers.Qualifiers.{Qualifiers}
 use Rattle.c_types.specs.contracts.type_ref.RowPartialEq.TheImpl as row
 use Rattle.c_types.specs.contracts.type_ref.QualifiedRefPartialEq.TheImpl as qualified
+use Rattle.c_types.specs.contracts.type_ref.SizePartialEq.TheImpl as size
 use Rattle.c_types.specs.contracts.qualifiers.QualifiersPartialEq.TheImpl as qualifiers
 use Rattle.c_types.specs.contracts.type_ref.TypeRefPartialEq.TheImpl as reference
+use Rattle.c_types.specs.contracts.type_ref.RowEq.TheImpl.Laws.{laws-law}
 use Rattle.c_types.specs.Table.{Extends, StandOnce}
 
 -- equal by `==` is one and the same
@@ -33,16 +36,33 @@ same_qualified q r e =
     let h = both ((qualifiers.eq-value).it q.qualifiers r.qualifiers) ((reference.eq-value).it q.target r.target) e in
     with_fields q r (same_plain _ _ h.0) (same_ref _ _ h.1)
 
+same_size : (x y : Size) → (size.eq-value).it x y ≡ true → x ≡ y
+same_size x y e =
+    let h = both (nat_eq x.cells y.cells) (nat_eq x.bytes y.bytes) e in
+    let cells = eqb-true _ _ h.0 in
+    let bytes = eqb-true _ _ h.1 in
+    λ i. record { cells = cells i; bytes = bytes i }
+
+false_both : {A : Type 0} (a : Bool) → (a && false) ≡ true → A
+false_both true e = absurd (true≢false (sym e))
+false_both false e = absurd (true≢false (sym e))
+
 pub same_row : (r s : Row) → (row.eq-value).it r s ≡ true → r ≡ s
 same_row (Pointer q) (Pointer r) e = ap Pointer (same_qualified q r (search rules))
-same_row (Array q None) (Array r None) e = ap (λ x. Array x None) (same_qualified q r (both ((qualified.eq-value).it q r) true e).0)
-same_row (Array q None) (Array r (Some m)) e = absurd (true≢false (sym (both ((qualified.eq-value).it q r) false e).1))
-same_row (Array q (Some n)) (Array r None) e = absurd (true≢false (sym (both ((qualified.eq-value).it q r) false e).1))
-same_row (Array q (Some n)) (Array r (Some m)) e =
-    let h = both ((qualified.eq-value).it q r) (nat_eq n m) e in
-    let same = same_qualified q r h.0 in
-    let alike = eqb-true n m h.1 in
-    λ i. Array (same i) (Some (alike i))
+same_row (Array q None x) (Array r None y) e =
+    let h = both ((qualified.eq-value).it q r) ((size.eq-value).it x y) e in
+    let first = same_qualified q r h.0 in
+    let large = same_size x y h.1 in
+    λ i. Array (first i) None (large i)
+same_row (Array q None x) (Array r (Some m) y) e = false_both ((qualified.eq-value).it q r) e
+same_row (Array q (Some n) x) (Array r None y) e = false_both ((qualified.eq-value).it q r) e
+same_row (Array q (Some n) x) (Array r (Some m) y) e =
+    let h = both ((qualified.eq-value).it q r) (nat_eq n m && (size.eq-value).it x y) e in
+    let k = both (nat_eq n m) ((size.eq-value).it x y) h.1 in
+    let first = same_qualified q r h.0 in
+    let long = eqb-true n m k.0 in
+    let large = same_size x y k.1 in
+    λ i. Array (first i) (Some (long i)) (large i)
 same_row (Returning q) (Returning r) e = ap Returning (same_qualified q r (search rules))
 same_row (Taking p t) (Taking r s) e =
     let h = both ((reference.eq-value).it p r) ((reference.eq-value).it t s) e in
@@ -51,11 +71,8 @@ same_row (Taking p t) (Taking r s) e =
     λ i. Taking (first i) (rest i)
 same_row r s e = search rules
 
-pub ref_same : (r : TypeRef) → (reference.eq-value).it r r ≡ true
-ref_same r = search rules
-
 pub row_same : (r : Row) → (row.eq-value).it r r ≡ true
-row_same r = search rules
+row_same r = laws-law.refl r
 
 pub some_is : {A : Type 0} {x y : A} → Some x ≡ Some y → x ≡ y
 some_is {x = x} e = ap (λ o. elim o [ Some z ↦ z | None ↦ x ]) e

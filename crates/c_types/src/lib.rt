@@ -10,4 +10,4 @@ mod type_ref;
 pub use form::{BinaryForm, ChoiceForm, Conversion};
 pub use qualifiers::Qualifiers;
 pub use table::Types;
-pub use type_ref::{QualifiedRef, Row, TypeRef};
+pub use type_ref::{QualifiedRef, Row, Size, TypeRef};
