@@ -1,8 +1,7 @@
 -- Rows of a table that are added, each once.
 use Rattle.std.proofs.Common.{rules, arith, ◌≡◌, ◌≢◌, ℕ, zero, suc, Bool, true, false, List, [], ◌∷◌, ◌++◌, ◌&&◌, Option, Some, None, slice_get, nat_eq, refl, sym, ◌∙◌, ap, subst, true≢false}
 use Rattle.std.proofs.lemmas.Bool.{eqb-true}
-use Rattle.std.specs.List.{IsDistinct, AllByRecursion, list_any}
-use Rattle.indexmap.specs.IndexSet.{insert_key}
+use Rattle.std.specs.List.{IsDistinct, AllByRecursion}
 use Rattle.c_types.specs.declared.type_ref.TypeRef.{TypeRef}
 use Rattle.c_types.specs.declared.type_ref.Row.{Row}
 use Rattle.c_types.specs.declared.type_ref.Row.TheVariants.{Pointer, Array, Returning, Taking}
@@ -15,7 +14,6 @@ use Rattle.c_types.specs.contracts.type_ref.SizePartialEq.TheImpl as size
 use Rattle.c_types.specs.contracts.qualifiers.QualifiersPartialEq.TheImpl as qualifiers
 use Rattle.c_types.specs.contracts.type_ref.TypeRefPartialEq.TheImpl as reference
 use Rattle.c_types.specs.contracts.type_ref.RowEq.TheImpl.Laws.{laws-law}
-use Rattle.c_types.specs.Table.{Extends, StandOnce}
 
 -- equal by `==` is one and the same
 pub same_ref : (r s : TypeRef) → (reference.eq-value).it r s ≡ true → r ≡ s
@@ -103,13 +101,3 @@ module _ {A : Type 0} (eq : A → A → Bool) (same : (x : A) → eq x x ≡ tru
   distinct-once (y ∷ xs) d zero (suc n) x e f = apart x (subst (λ z. eq z x ≡ false) (some_is e) (all-at _ xs d.0 n x f))
   distinct-once (y ∷ xs) d (suc m) zero x e f = apart x (subst (λ z. eq z x ≡ false) (some_is f) (all-at _ xs d.0 m x e))
   distinct-once (y ∷ xs) d (suc m) (suc n) x e f = ap suc (distinct-once xs d.1 m n x e f)
-
-pub extends-insert : (rows : List Row) (r : Row) → Extends rows (insert_key (row.eq-value).it rows r)
-extends-insert rows r = by (list_any ((row.eq-value).it r) rows) refl
-  where
-    by : (b : Bool) → list_any ((row.eq-value).it r) rows ≡ b → Extends rows (insert_key (row.eq-value).it rows r)
-    by true e = record { kept = λ n x h. rw e h }
-    by false e = record { kept = λ n x h. rw e (slice_get-front rows _ n x h) }
-
-pub once : (rows : List Row) → IsDistinct (row.eq-value).it rows → StandOnce rows
-once rows d = record { once = distinct-once (row.eq-value).it row_same rows d }

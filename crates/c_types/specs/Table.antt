@@ -1,5 +1,5 @@
--- What a table of types says: the rows that stand in it, each made of types that stand in it too.
-use Rattle.std.specs.Prelude.{◌≡◌, ℕ, List, Option, Some, None, slice_get}
+-- What a table of types says: rows, each of which makes a type of the types of earlier rows.
+use Rattle.std.specs.Prelude.{◌≡◌, ℕ, ◌<◌, Bool as Test, List, [], ◌∷◌, ◌++◌, length, Option, Some, None, slice_get, slice_index_or, ⊤}
 use Rattle.c_types.specs.declared.type_ref.TypeRef.{TypeRef}
 use Rattle.c_types.specs.declared.type_ref.TypeRef.TheVariants as ref
 use Rattle.c_types.specs.declared.type_ref.QualifiedRef.{QualifiedRef}
@@ -8,35 +8,70 @@ use Rattle.c_types.specs.declared.type_ref.Row.{Row}
 use Rattle.c_types.specs.declared.type_ref.Row.TheVariants as row
 use Rattle.c_types.specs.Types.{CType, void, integer, pointer, array, returning, taking, Qualified, cells_of, bytes_of}
 
+-- the size of an object of a type
+abbrev pub size_of : CType → Size
+size_of t = record { cells = cells_of t; bytes = bytes_of t }
+
+-- the type of a reference, where these are the types of the rows
+abbrev pub type_in : List CType → TypeRef → CType
+type_in types ref.Void = void
+type_in types (ref.Integer ty) = integer ty
+type_in types (ref.Derived n) = slice_index_or types n void
+
+-- the type that a row makes of the types of earlier rows
+abbrev pub row_type : List CType → Row → CType
+row_type types (row.Pointer q) = pointer q.qualifiers (type_in types q.target)
+row_type types (row.Array q length size) = array q.qualifiers (type_in types q.target) length
+row_type types (row.Returning q) = returning q.qualifiers (type_in types q.target)
+row_type types (row.Taking p rest) = taking (type_in types p) (type_in types rest)
+
+-- the types of rows behind those of earlier rows
+unfoldable pub types_from : List CType → List Row → List CType
+types_from types [] = types
+types_from types (row ∷ rows) = types_from (types ++ row_type types row ∷ []) rows
+
+abbrev pub types_of : List Row → List CType
+types_of rows = types_from [] rows
+
+-- the type of a reference
+abbrev pub type_at : List Row → TypeRef → CType
+type_at rows r = type_in (types_of rows) r
+
+abbrev pub qualified_at : List Row → QualifiedRef → Qualified
+qualified_at rows r = record { qualifiers = r.qualifiers; type = type_at rows r.target }
+
+-- the second has more rows behind those of the first
+pub record Extends (old new : List Row) : Type 0 where
+  pub more : List Row
+  pub is : new ≡ old ++ more
+
+-- a reference stands for a type, in these rows and in all that have more
+pub record Stands (rows : List Row) (r : TypeRef) (t : CType) : Type 0 where
+  pub always : (later : List Row) → Extends rows later → type_at later r ≡ t
+
+-- ---- what a table keeps
+
 -- the row of a type, if it has one
 abbrev pub row_at : List Row → TypeRef → Option Row
 row_at rows ref.Void = None
 row_at rows (ref.Integer ty) = None
 row_at rows (ref.Derived n) = slice_get rows n
 
--- the size of an object of a type
-abbrev pub size_of : CType → Size
-size_of t = record { cells = cells_of t; bytes = bytes_of t }
+-- a reference is to one of the first n rows, if to a row
+abbrev pub IsBelow : ℕ → TypeRef → Type 0
+IsBelow n ref.Void = ⊤
+IsBelow n (ref.Integer ty) = ⊤
+IsBelow n (ref.Derived m) = m < n
 
--- In these rows a reference stands for a type. An array's row has its size.
-unfoldable pub Stands : List Row → TypeRef → CType → Type 0
-Stands rows r void = r ≡ ref.Void
-Stands rows r (integer ty) = r ≡ ref.Integer ty
-Stands rows r (pointer q t) = (s : TypeRef) × (row_at rows r ≡ Some (row.Pointer (record { qualifiers = q; target = s }))) × Stands rows s t
-Stands rows r (array q t n) =
-    (s : TypeRef) × (row_at rows r ≡ Some (row.Array (record { qualifiers = q; target = s }) n (size_of (array q t n)))) × Stands rows s t
-Stands rows r (returning q t) = (s : TypeRef) × (row_at rows r ≡ Some (row.Returning (record { qualifiers = q; target = s }))) × Stands rows s t
-Stands rows r (taking p t) = (s u : TypeRef) × (row_at rows r ≡ Some (row.Taking s u)) × Stands rows s p × Stands rows u t
+-- a row is made of the first n, and an array's has its size
+abbrev pub IsMadeBelow : List CType → ℕ → Row → Type 0
+IsMadeBelow types n (row.Pointer q) = IsBelow n q.target
+IsMadeBelow types n (row.Array q length size) = IsBelow n q.target × (size ≡ size_of (array q.qualifiers (type_in types q.target) length))
+IsMadeBelow types n (row.Returning q) = IsBelow n q.target
+IsMadeBelow types n (row.Taking p rest) = IsBelow n p × IsBelow n rest
 
--- in these rows a reference with qualifiers stands for a type with qualifiers
-pub record StandsFor (rows : List Row) (r : QualifiedRef) (t : Qualified) : Type 0 where
-  pub qualifiers : r.qualifiers ≡ t.qualifiers
-  pub type : Stands rows r.target t.type
-
--- the rows of the first stand in the second at the same places
-pub record Extends (old new : List Row) : Type 0 where
-  pub kept : (n : ℕ) (row : Row) → slice_get old n ≡ Some row → slice_get new n ≡ Some row
-
--- each row stands once
-pub record StandOnce (rows : List Row) : Type 0 where
+pub record WellMade (rows : List Row) : Type 0 where
+  -- each row is made of earlier ones
+  pub earlier : (n : ℕ) (row : Row) → slice_get rows n ≡ Some row → IsMadeBelow (types_of rows) n row
+  -- each row stands once
   pub once : (m n : ℕ) (row : Row) → slice_get rows m ≡ Some row → slice_get rows n ≡ Some row → m ≡ n
