@@ -1,13 +1,14 @@
 -- The types of rows: those of earlier rows stay as more rows come.
 use Rattle.std.proofs.Common.{rules, arith, ◌≡◌, ℕ, zero, suc, ◌+◌, ◌<◌, ◌≤◌, List, [], ◌∷◌, ◌++◌, length, length-append, append_assoc, Option, Some, None, slice_get, get_or, refl, sym, ◌∙◌, ap, subst}
-use Rattle.std.proofs.lemmas.Option.{slice_get_within, slice_get-get_or, get_or_from_slice_get}
+use Rattle.std.proofs.lemmas.List.{get_or_past}
+use Rattle.std.proofs.lemmas.Option.{slice_get_past, slice_get_within, slice_get-get_or, get_or_from_slice_get}
 use Rattle.c_types.specs.declared.type_ref.TypeRef.{TypeRef}
 use Rattle.c_types.specs.declared.type_ref.TypeRef.TheVariants as ref
 use Rattle.c_types.specs.declared.type_ref.QualifiedRef.{QualifiedRef}
 use Rattle.c_types.specs.declared.type_ref.Row.{Row}
 use Rattle.c_types.specs.declared.type_ref.Row.TheVariants as row
 use Rattle.c_types.specs.Types.{CType, void, pointer, array, returning, taking}
-use Rattle.c_types.specs.Table.{size_of, type_in, row_type, types_from, types_of, type_at, row_at, Extends, IsBelow, IsMadeBelow, WellMade}
+use Rattle.c_types.specs.Table.{Stands, size_of, type_in, row_type, shape_type, shape_of, IsShapedBelow, types_from, types_of, type_at, row_at, Extends, IsBelow, IsMadeBelow, WellMade}
 use Rattle.c_types.proofs.Rows.{some_is, none_is_not, slice_get-front}
 
 pub types_from-append : (ts : List CType) (xs ys : List Row) → types_from ts (xs ++ ys) ≡ types_from (types_from ts xs) ys
@@ -122,3 +123,43 @@ pub row_type-later : (old new : List Row) → Extends old new → (x : Row) → 
 row_type-later old new later x fits =
     ap (λ rows. row_type (types_of rows) x) later.is ∙ ap (λ ts. row_type ts x) (types_from-append [] old later.more)
       ∙ row_type-kept (types_of old) later.more x (subst (λ k. PartsBelow k x) (sym (length-types_of old)) (parts_of _ _ x fits))
+
+past : (rows : List Row) (n : ℕ) → slice_get rows n ≡ None → length rows ≤ n
+past [] n e = omega arith
+past (x ∷ rows) zero e = none_is_not (sym e)
+past (x ∷ rows) (suc n) e = let h = past rows n e in omega arith
+
+-- a reference to no row is void
+pub type_at-past : (rows : List Row) (n : ℕ) → length rows ≤ n → type_at rows (ref.Derived n) ≡ void
+type_at-past rows n past =
+    let l = length-types_of rows in
+    let at : length (types_of rows) ≤ n = omega arith in
+    get_or_past (types_of rows) n void at
+
+-- what the row of a reference says of its type
+pub shape-made : (rows : List Row) → WellMade rows → (n : ℕ) → type_at rows (ref.Derived n) ≡ shape_type (types_of rows) (shape_of (slice_get rows n))
+shape-made rows well n = by (slice_get rows n) refl
+  where
+    by : (o : Option Row) → slice_get rows n ≡ o → type_at rows (ref.Derived n) ≡ shape_type (types_of rows) (shape_of o)
+    by None e = type_at-past rows n (past rows n e)
+    by (Some (row.Pointer q)) e = type_at-row rows well (ref.Derived n) _ e
+    by (Some (row.Array q l x)) e = type_at-row rows well (ref.Derived n) _ e
+    by (Some (row.Returning q)) e = type_at-row rows well (ref.Derived n) _ e
+    by (Some (row.Taking p t)) e = type_at-row rows well (ref.Derived n) _ e
+
+pub shape-below : (rows : List Row) → WellMade rows → (n : ℕ) → IsShapedBelow (types_of rows) (length rows) (shape_of (slice_get rows n))
+shape-below rows well n = by (slice_get rows n) refl
+  where
+    up : (x : Row) → slice_get rows n ≡ Some x → n ≤ length rows
+    up x e = let h = slice_get_within rows n x e in omega arith
+    by : (o : Option Row) → slice_get rows n ≡ o → IsShapedBelow (types_of rows) (length rows) (shape_of o)
+    by None e = tt
+    by (Some (row.Pointer q)) e = below-more n _ (up _ e) q.target (well.earlier n _ e)
+    by (Some (row.Array q l x)) e = (below-more n _ (up _ e) q.target (well.earlier n _ e).0, (well.earlier n _ e).1)
+    by (Some (row.Returning q)) e = below-more n _ (up _ e) q.target (well.earlier n _ e)
+    by (Some (row.Taking p t)) e =
+        (below-more n _ (up _ e) p (well.earlier n _ e).0, below-more n _ (up _ e) t (well.earlier n _ e).1)
+
+-- a reference to a row that stands stands for its type in all later rows
+pub Stands-below : (rows : List Row) (r : TypeRef) → IsBelow (length rows) r → Stands rows r (type_at rows r)
+Stands-below rows r below = record { always = λ later more. type_at-later rows later more r below }

@@ -1,3 +1,4 @@
 pub mod Rows
 pub mod Grown
 pub mod Added
+pub mod Sizes

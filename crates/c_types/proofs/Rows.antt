@@ -6,11 +6,11 @@ use Rattle.c_types.specs.declared.type_ref.TypeRef.{TypeRef}
 use Rattle.c_types.specs.declared.type_ref.Row.{Row}
 use Rattle.c_types.specs.declared.type_ref.Row.TheVariants.{Pointer, Array, Returning, Taking}
 use Rattle.c_types.specs.declared.type_ref.QualifiedRef.{QualifiedRef}
-use Rattle.c_types.specs.declared.type_ref.Size.{Size}
+use Rattle.c_types.specs.declared.size.Size.{Size}
 use Rattle.c_types.specs.declared.qualifiers.Qualifiers.{Qualifiers}
 use Rattle.c_types.specs.contracts.type_ref.RowPartialEq.TheImpl as row
 use Rattle.c_types.specs.contracts.type_ref.QualifiedRefPartialEq.TheImpl as qualified
-use Rattle.c_types.specs.contracts.type_ref.SizePartialEq.TheImpl as size
+use Rattle.c_types.specs.contracts.size.SizePartialEq.TheImpl as size
 use Rattle.c_types.specs.contracts.qualifiers.QualifiersPartialEq.TheImpl as qualifiers
 use Rattle.c_types.specs.contracts.type_ref.TypeRefPartialEq.TheImpl as reference
 use Rattle.c_types.specs.contracts.type_ref.RowEq.TheImpl.Laws.{laws-law}

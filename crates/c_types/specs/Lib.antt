@@ -3,3 +3,4 @@ pub mod Conversions
 pub mod Rules
 pub mod Hashing
 pub mod Table
+pub mod Sizes

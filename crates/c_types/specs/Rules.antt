@@ -35,9 +35,12 @@ beside true rule r = r
 beside false rule (Ok a) = Err rule
 beside false rule (Err other) = if nat_le other rule then Err other else Err rule
 
--- two operands that no case of a rule allows
+-- two operands that no case of a rule allows: the rule, or rule 14 where one is void
+abbrev pub refused_rule : ℕ → CType → CType → ℕ
+refused_rule rule a b = if is_void a || is_void b then 14 else rule
+
 abbrev pub refused : {A : Type 0} → ℕ → CType → CType → Ruled A
-refused rule a b = if is_void a || is_void b then Err 14 else Err rule
+refused rule a b = Err (refused_rule rule a b)
 
 -- a value that is there, and is no integer
 abbrev pub is_other : CType → Test
@@ -52,10 +55,6 @@ unary_type t = if is_integer t then Ok (promoted (ty_of t)) else refused 1 t t
 -- a condition, or an operand of `! && ||` (C11 6.5.3.3p1, 6.5.13p2, 6.5.14p2, 6.5.15p2, 6.8.4.1p1, 6.8.5p2)
 abbrev pub tested_type : CType → Ruled CType
 tested_type t = if is_scalar t then Ok t else Err 5
-
--- two integers, with the type at which an operator computes on them
-abbrev pub integers : Ty → CType → CType → Ruled Ty
-integers at a b = if is_integer a && is_integer b then Ok at else if is_other a || is_other b then Err 1 else Err 14
 
 -- `* / %` and `& ^ |` (C11 6.5.5p2, 6.5.10p2, 6.5.11p2, 6.5.12p2)
 abbrev pub arithmetic_form : CType → CType → Ruled BinaryForm

@@ -3,11 +3,19 @@
 #![tactic(auto)]
 
 mod form;
+mod integer;
+mod kinds;
+mod operand;
 mod qualifiers;
+mod rules;
+mod size;
 mod table;
 mod type_ref;
 
 pub use form::{BinaryForm, ChoiceForm, Conversion};
+pub use integer::{integer_bytes, integer_cells, promoted, usual};
+pub use operand::OperandRef;
 pub use qualifiers::Qualifiers;
 pub use table::Types;
-pub use type_ref::{QualifiedRef, Row, Size, TypeRef};
+pub use size::Size;
+pub use type_ref::{QualifiedRef, Shape, TypeRef};

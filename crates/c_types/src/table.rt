@@ -1,8 +1,8 @@
-ghost use Rattle.std.specs.Prelude.{◌≡◌, ℕ, [], Some, Option, option_map, IfOk, length};
-ghost use Rattle.c_types.specs.Types.{CType, Qualified, pointer_to, array_of, returning, taking};
-ghost use Rattle.c_types.specs.Table.{row_type, types_of, row_at, type_at, qualified_at, Stands, Extends, IsBelow, IsMadeBelow};
+ghost use Rattle.std.specs.Prelude.{◌≡◌, ◌<◌, ◌↔◌, [], IfOk, IfSome, IsNone, length};
+ghost use Rattle.c_types.specs.Types.{pointer_to as pointer_type, array_of as array_type, returning as returning_type, taking as taking_type, cells_of};
+ghost use Rattle.c_types.specs.Table.{row_type, shape_type, shape_of as shape_of_row, types_of, type_at, qualified_at, Stands, Extends, IsBelow, IsMadeBelow, IsShapedBelow};
 
-use crate::type_ref::{QualifiedRef, Row, TypeRef};
+use crate::type_ref::{QualifiedRef, Row, Shape, TypeRef};
 use indexmap::IndexSet;
 use std::alloc::{AllocError, Global};
 use std::marker::Model;
@@ -36,14 +36,15 @@ impl Types {
         }
     }
 
-    /// The row of a type that has one.
-    pub fn row(&self, of: TypeRef) -> Option<Row>
-        ensures { result ≡ row_at self.now of }
+    /// How a type is made.
+    pub fn shape(&self, of: TypeRef) -> Shape
+        ensures made { type_at self.now of ≡ shape_type (types_of self.now) result }
+        ensures below { IsShapedBelow (types_of self.now) (length self.now) result }
     {
         match of {
-            TypeRef::Void => None,
-            TypeRef::Integer(_) => None,
-            TypeRef::Derived(row) => self.rows.get_index(row).copied(),
+            TypeRef::Void => Shape::Void,
+            TypeRef::Integer(ty) => Shape::Integer(ty),
+            TypeRef::Derived(row) => shape_of(self.rows.get_index(row).copied()),
         }
     }
 
@@ -78,10 +79,42 @@ impl Types {
     /// A pointer to a type.
     pub fn pointer_to(&mut self, target: QualifiedRef) -> Result<TypeRef, AllocError>
         ensures kept { Extends self.old self.new }
-        ensures made { IfOk result (λ r. Stands self.new r (pointer_to (qualified_at self.old target))) }
+        ensures made { IfOk result (λ r. Stands self.new r (pointer_type (qualified_at self.old target))) }
     {
         let target = self.qualified(target);
         self.intern(Row::Pointer(target))
+    }
+
+    /// An array of elements of a type, or `None` where it has more than 65,535 cells.
+    pub fn array_of(&mut self, element: QualifiedRef, length: Option<u32>) -> Result<Option<TypeRef>, AllocError>
+        ensures kept { Extends self.old self.new }
+        ensures large { IfOk result (λ r. IsNone r ↔ (65535 < cells_of (array_type (qualified_at self.old element) length))) }
+        ensures made { IfOk result (λ r. IfSome r (λ array. Stands self.new array (array_type (qualified_at self.old element) length))) }
+    {
+        let element = self.qualified(element);
+        match self.size(element.target).times(length) {
+            None => Ok(None),
+            Some(size) => Ok(Some(self.intern(Row::Array(element, length, size))?)),
+        }
+    }
+
+    /// A function without parameters.
+    pub fn returning(&mut self, value: QualifiedRef) -> Result<TypeRef, AllocError>
+        ensures kept { Extends self.old self.new }
+        ensures made { IfOk result (λ r. Stands self.new r (returning_type value.qualifiers (type_at self.old value.target))) }
+    {
+        let value = self.qualified(value);
+        self.intern(Row::Returning(value))
+    }
+
+    /// A function with one more parameter in front.
+    pub fn taking(&mut self, parameter: TypeRef, rest: TypeRef) -> Result<TypeRef, AllocError>
+        ensures kept { Extends self.old self.new }
+        ensures made { IfOk result (λ r. Stands self.new r (taking_type (type_at self.old parameter) (type_at self.old rest))) }
+    {
+        let parameter = self.known(parameter);
+        let rest = self.known(rest);
+        self.intern(Row::Taking(parameter, rest))
     }
 
     /// A qualified reference whose type is known.
@@ -93,5 +126,18 @@ impl Types {
             qualifiers: of.qualifiers,
             target: self.known(of.target),
         }
+    }
+}
+
+/// How the type of a row is made; `void` where there is no row.
+fn shape_of(row: Option<Row>) -> Shape
+    ensures { result ≡ shape_of_row row }
+{
+    match row {
+        None => Shape::Void,
+        Some(Row::Pointer(target)) => Shape::Pointer(target),
+        Some(Row::Array(element, length, size)) => Shape::Array(element, length, size),
+        Some(Row::Returning(result)) => Shape::Returning(result),
+        Some(Row::Taking(parameter, rest)) => Shape::Taking(parameter, rest),
     }
 }

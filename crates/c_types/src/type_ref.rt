@@ -4,6 +4,7 @@ ghost use Rattle.std.proofs.Common.{rules};
 ghost use Rattle.c_types.specs.Hashing.{writes_of};
 
 use crate::qualifiers::Qualifiers;
+use crate::size::Size;
 use srmt_base::Ty;
 use std::hash::{Hash, Hasher};
 
@@ -36,17 +37,24 @@ pub struct QualifiedRef {
     pub target: TypeRef,
 }
 
-/// How large an object of a type is.
-#[derive(Clone, Copy, Debug, PartialEq, Eq, Hash)]
-pub struct Size {
-    pub cells: u32,
-    /// What `sizeof` gives (C11 6.5.3.4).
-    pub bytes: u32,
-}
-
 /// A row of a table of types: a type that is made of earlier ones.
 #[derive(Clone, Copy, Debug, PartialEq, Eq, Hash)]
 pub enum Row {
+    /// A pointer to a type.
+    Pointer(QualifiedRef),
+    /// An array of elements of a type, its length, and its size.
+    Array(QualifiedRef, Option<u32>, Size),
+    /// A function with a result and no parameters.
+    Returning(QualifiedRef),
+    /// A function with one more parameter in front, and the function without it.
+    Taking(TypeRef, TypeRef),
+}
+
+/// How a type is made.
+#[derive(Clone, Copy, Debug, PartialEq, Eq)]
+pub enum Shape {
+    Void,
+    Integer(Ty),
     /// A pointer to a type.
     Pointer(QualifiedRef),
     /// An array of elements of a type, its length, and its size.

@@ -1,0 +1,89 @@
+ghost use Rattle.std.specs.Prelude.{◌≡◌, IfOk};
+ghost use Rattle.c_types.specs.Types.{is_void as void_type, is_integer as integer_type, is_pointer as pointer_type, is_function as function_type, is_complete as complete_type, ty_of, target_of, plain, decayed as decayed_type};
+ghost use Rattle.c_types.specs.Table.{size_of, type_at, qualified_at, Stands, StandsFor, Extends};
+
+use crate::integer::{integer_bytes, integer_cells};
+use crate::qualifiers::Qualifiers;
+use crate::size::Size;
+use crate::table::Types;
+use crate::type_ref::{QualifiedRef, Shape, TypeRef};
+
+/// `void` without qualifiers.
+const UNQUALIFIED_VOID: QualifiedRef = QualifiedRef {
+    qualifiers: Qualifiers {
+        is_const: false,
+        is_volatile: false,
+    },
+    target: TypeRef::Void,
+};
+
+impl Types {
+    /// Whether a type is `void`.
+    pub fn is_void(&self, of: TypeRef) -> bool
+        ensures { result ≡ void_type (type_at self.now of) }
+    {
+        match self.shape(of) {
+            Shape::Void => true,
+            Shape::Integer(_) | Shape::Pointer(_) | Shape::Array(..) => false,
+            Shape::Returning(_) | Shape::Taking(..) => false,
+        }
+    }
+
+    /// Whether a type is a pointer's.
+    pub fn is_pointer(&self, of: TypeRef) -> bool
+        ensures { result ≡ pointer_type (type_at self.now of) }
+    {
+        match self.shape(of) {
+            Shape::Pointer(_) => true,
+            Shape::Void | Shape::Integer(_) | Shape::Array(..) => false,
+            Shape::Returning(_) | Shape::Taking(..) => false,
+        }
+    }
+
+    /// Whether a type is a function's.
+    pub fn is_function(&self, of: TypeRef) -> bool
+        ensures { result ≡ function_type (type_at self.now of) }
+    {
+        match self.shape(of) {
+            Shape::Returning(_) | Shape::Taking(..) => true,
+            Shape::Void | Shape::Integer(_) | Shape::Pointer(_) | Shape::Array(..) => false,
+        }
+    }
+
+    /// What a pointer points to; `void` for a type that is no pointer's.
+    pub fn target(&self, of: TypeRef) -> QualifiedRef
+        ensures { StandsFor self.now result (target_of (type_at self.now of)) }
+    {
+        match self.shape(of) {
+            Shape::Pointer(target) => target,
+            Shape::Void | Shape::Integer(_) | Shape::Array(..) => UNQUALIFIED_VOID,
+            Shape::Returning(_) | Shape::Taking(..) => UNQUALIFIED_VOID,
+        }
+    }
+
+    /// Whether a type is a complete object's (C11 6.2.5p1).
+    pub fn is_complete(&self, of: TypeRef) -> bool
+        ensures { result ≡ complete_type (type_at self.now of) }
+    {
+        match self.shape(of) {
+            Shape::Integer(_) | Shape::Pointer(_) => true,
+            Shape::Array(_, length, _) => length.is_some(),
+            Shape::Void | Shape::Returning(_) | Shape::Taking(..) => false,
+        }
+    }
+
+    /// How large an object of a type is: 0 where the type is not complete.
+    pub fn size(&self, of: TypeRef) -> Size
+        ensures { result ≡ size_of (type_at self.now of) }
+    {
+        match self.shape(of) {
+            Shape::Integer(ty) => Size {
+                cells: integer_cells(ty),
+                bytes: integer_bytes(ty),
+            },
+            Shape::Pointer(_) => Size { cells: 1, bytes: 4 },
+            Shape::Array(_, _, size) => size,
+            Shape::Void | Shape::Returning(_) | Shape::Taking(..) => Size { cells: 0, bytes: 0 },
+        }
+    }
+}
