@@ -124,7 +124,7 @@ row_type-later old new later x fits =
     ap (λ rows. row_type (types_of rows) x) later.is ∙ ap (λ ts. row_type ts x) (types_from-append [] old later.more)
       ∙ row_type-kept (types_of old) later.more x (subst (λ k. PartsBelow k x) (sym (length-types_of old)) (parts_of _ _ x fits))
 
-past : (rows : List Row) (n : ℕ) → slice_get rows n ≡ None → length rows ≤ n
+pub past : (rows : List Row) (n : ℕ) → slice_get rows n ≡ None → length rows ≤ n
 past [] n e = omega arith
 past (x ∷ rows) zero e = none_is_not (sym e)
 past (x ∷ rows) (suc n) e = let h = past rows n e in omega arith

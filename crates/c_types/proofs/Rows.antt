@@ -22,9 +22,12 @@ same_ref r s e = search rules
 same_plain : (q r : Qualifiers) → (qualifiers.eq-value).it q r ≡ true → q ≡ r
 same_plain q r e = search rules
 
-both : (a b : Bool) → (a && b) ≡ true → (a ≡ true) × (b ≡ true)
+pub both : (a b : Bool) → (a && b) ≡ true → (a ≡ true) × (b ≡ true)
 both true b e = (refl, e)
 both false b e = absurd (true≢false (sym e))
+
+pub both_hold : {a b : Bool} → a ≡ true → b ≡ true → (a && b) ≡ true
+both_hold {a = a} {b = b} e f = ap (λ c. c && b) e ∙ f
 
 with_fields : (q r : QualifiedRef) → q.qualifiers ≡ r.qualifiers → q.target ≡ r.target → q ≡ r
 with_fields q r e f = λ i. record { qualifiers = e i; target = f i }

@@ -1,5 +1,5 @@
 ghost use Rattle.std.specs.Prelude.{◌≡◌, IfOk};
-ghost use Rattle.c_types.specs.Types.{is_void as void_type, is_integer as integer_type, is_pointer as pointer_type, is_function as function_type, is_complete as complete_type, ty_of, target_of, plain, decayed as decayed_type};
+ghost use Rattle.c_types.specs.Types.{is_void as void_type, is_integer as integer_type, is_scalar as scalar_type, is_object_pointer as object_pointer, is_complete_pointer as complete_pointer, is_function_pointer as function_pointer, is_pointer as pointer_type, is_function as function_type, is_complete as complete_type, ty_of, target_of, plain, decayed as decayed_type};
 ghost use Rattle.c_types.specs.Table.{size_of, type_at, qualified_at, Stands, StandsFor, Extends};
 
 use crate::integer::{integer_bytes, integer_cells};
@@ -7,6 +7,7 @@ use crate::qualifiers::Qualifiers;
 use crate::size::Size;
 use crate::table::Types;
 use crate::type_ref::{QualifiedRef, Shape, TypeRef};
+use srmt_base::Ty;
 
 /// `void` without qualifiers.
 const UNQUALIFIED_VOID: QualifiedRef = QualifiedRef {
@@ -85,5 +86,55 @@ impl Types {
             Shape::Array(_, _, size) => size,
             Shape::Void | Shape::Returning(_) | Shape::Taking(..) => Size { cells: 0, bytes: 0 },
         }
+    }
+
+    /// Whether a type is an integer's.
+    pub fn is_integer(&self, of: TypeRef) -> bool
+        ensures { result ≡ integer_type (type_at self.now of) }
+    {
+        match self.shape(of) {
+            Shape::Integer(_) => true,
+            Shape::Void | Shape::Pointer(_) | Shape::Array(..) => false,
+            Shape::Returning(_) | Shape::Taking(..) => false,
+        }
+    }
+
+    /// What integer type a type is; `int` for one that is none.
+    pub fn ty(&self, of: TypeRef) -> Ty
+        ensures { result ≡ ty_of (type_at self.now of) }
+    {
+        match self.shape(of) {
+            Shape::Integer(ty) => ty,
+            Shape::Void | Shape::Pointer(_) | Shape::Array(..) => Ty::Int,
+            Shape::Returning(_) | Shape::Taking(..) => Ty::Int,
+        }
+    }
+
+    /// Whether a type is an integer's or a pointer's (C11 6.2.5p21).
+    pub fn is_scalar(&self, of: TypeRef) -> bool
+        ensures { result ≡ scalar_type (type_at self.now of) }
+    {
+        self.is_integer(of) || self.is_pointer(of)
+    }
+
+    /// Whether a type is a pointer's to an object, perhaps to an array without a length.
+    pub fn is_object_pointer(&self, of: TypeRef) -> bool
+        ensures { result ≡ object_pointer (type_at self.now of) }
+    {
+        self.is_pointer(of) && !self.is_function(self.target(of).target)
+    }
+
+    /// Whether a type is a pointer's to a complete object type.
+    pub fn is_complete_pointer(&self, of: TypeRef) -> bool
+        ensures { result ≡ complete_pointer (type_at self.now of) }
+    {
+        self.is_pointer(of) && self.is_complete(self.target(of).target)
+    }
+
+    /// Whether a type is a pointer's to a function.
+    pub fn is_function_pointer(&self, of: TypeRef) -> bool
+        ensures { result ≡ function_pointer (type_at self.now of) }
+    {
+        self.is_pointer(of) && self.is_function(self.target(of).target)
     }
 }

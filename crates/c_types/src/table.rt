@@ -1,5 +1,5 @@
 ghost use Rattle.std.specs.Prelude.{◌≡◌, ◌<◌, ◌↔◌, [], IfOk, IfSome, IsNone, length};
-ghost use Rattle.c_types.specs.Types.{pointer_to as pointer_type, array_of as array_type, returning as returning_type, taking as taking_type, cells_of};
+ghost use Rattle.c_types.specs.Types.{pointer_to as pointer_type, array_of as array_type, returning as returning_type, taking as taking_type, same_type, cells_of};
 ghost use Rattle.c_types.specs.Table.{row_type, shape_type, shape_of as shape_of_row, types_of, type_at, qualified_at, Stands, Extends, IsBelow, IsMadeBelow, IsShapedBelow};
 
 use crate::type_ref::{QualifiedRef, Row, Shape, TypeRef};
@@ -74,6 +74,14 @@ impl Types {
                 }
             }
         }
+    }
+
+    /// Whether two types are one type.
+    pub fn is_one(&self, a: TypeRef, b: TypeRef) -> bool
+        ensures { result ≡ same_type (type_at self.now a) (type_at self.now b) }
+    {
+        let _ = &self.rows;
+        self.known(a) == self.known(b)
     }
 
     /// A pointer to a type.
