@@ -182,11 +182,15 @@ integer_conversion target from =
     else if is_pointer from.type && ty_code (ty_of target) == ty_code Bool then Ok to.PointerToBool
     else refused 8 from.type from.type
 
+-- what a pointer points to has each qualifier of what another one points to
+abbrev pub loses_none : CType → CType → Test
+loses_none from target = has_each (target_of from).qualifiers (target_of target).qualifiers
+
 -- a conversion as by assignment to a pointer (C11 6.5.16.1p1)
 abbrev pub pointer_conversion : CType → Operand → Ruled Conversion
 pointer_conversion target from =
     if from.is_null then Ok to.Null
-    else if point_to_one from.type target && has_each (target_of from.type).qualifiers (target_of target).qualifiers then Ok to.Pointer
+    else if point_to_one from.type target && loses_none from.type target then Ok to.Pointer
     else refused 8 from.type from.type
 
 -- a conversion as by assignment (C11 6.5.16.1p1)
@@ -248,10 +252,11 @@ element_of a b = if is_pointer a then target_of a else target_of b
 abbrev pub callee_type : CType → Ruled CType
 callee_type t = if is_function_pointer t then Ok (target_of t).type else refused 10 t t
 
--- a cast to a type (C11 6.5.4p2), in this subset to an integer type from an integer, or to void from anything
+-- a cast to a type (C11 6.5.4p2), in this subset to an integer type from an integer, or to void from anything; its
+-- type is that to which it casts
 abbrev pub cast_type : CType → CType → Ruled CType
 cast_type target from =
-    if is_void target then Ok void
+    if is_void target then Ok target
     else if is_integer target && is_integer from then Ok target
     else if is_integer target then refused 12 from from
     else Err 12

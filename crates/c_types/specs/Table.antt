@@ -1,5 +1,5 @@
 -- What a table of types says: rows, each of which makes a type of the types of earlier rows.
-use Rattle.std.specs.Prelude.{◌≡◌, ℕ, ◌<◌, Bool as Test, List, [], ◌∷◌, ◌++◌, length, Option, Some, None, slice_get, slice_index_or, ⊤}
+use Rattle.std.specs.Prelude.{◌≡◌, ℕ, ◌<◌, Bool as Test, List, [], ◌∷◌, ◌++◌, length, Option, Some, None, Result, Ok, Err, slice_get, slice_index_or, ⊤}
 use Rattle.c_types.specs.declared.type_ref.TypeRef.{TypeRef}
 use Rattle.c_types.specs.declared.type_ref.TypeRef.TheVariants as ref
 use Rattle.c_types.specs.declared.type_ref.QualifiedRef.{QualifiedRef}
@@ -9,7 +9,7 @@ use Rattle.c_types.specs.declared.type_ref.Row.TheVariants as row
 use Rattle.c_types.specs.declared.operand.OperandRef.{OperandRef}
 use Rattle.c_types.specs.declared.type_ref.Shape.{Shape}
 use Rattle.c_types.specs.declared.type_ref.Shape.TheVariants as shape
-use Rattle.c_types.specs.Rules.{Operand}
+use Rattle.c_types.specs.Rules.{Operand, Ruled}
 use Rattle.c_types.specs.Types.{CType, void, integer, pointer, array, returning, taking, Qualified, cells_of, bytes_of}
 
 -- the size of an object of a type
@@ -77,6 +77,29 @@ pub record Stands (rows : List Row) (r : TypeRef) (t : CType) : Type 0 where
 pub record StandsFor (rows : List Row) (r : QualifiedRef) (t : Qualified) : Type 0 where
   pub qualifiers : r.qualifiers ≡ t.qualifiers
   pub type : Stands rows r.target t.type
+
+-- ---- what rules answer of references
+
+-- a rule answers a type with qualifiers
+abbrev pub IndirectionIs : List Row → Result QualifiedRef ℕ → Ruled Qualified → Type 0
+IndirectionIs rows (Ok r) (Ok t) = StandsFor rows r t
+IndirectionIs rows (Ok r) (Err rule) = ⊥
+IndirectionIs rows (Err found) (Ok t) = ⊥
+IndirectionIs rows (Err found) (Err rule) = found ≡ rule
+
+-- a rule answers a type
+abbrev pub CalleeIs : List Row → Result TypeRef ℕ → Ruled CType → Type 0
+CalleeIs rows (Ok r) (Ok t) = Stands rows r t
+CalleeIs rows (Ok r) (Err rule) = ⊥
+CalleeIs rows (Err found) (Ok t) = ⊥
+CalleeIs rows (Err found) (Err rule) = found ≡ rule
+
+-- a rule allows what is asked, with a type that is known
+abbrev pub CastIs : Result ⊤ ℕ → Ruled CType → Type 0
+CastIs (Ok found) (Ok t) = ⊤
+CastIs (Ok found) (Err rule) = ⊥
+CastIs (Err found) (Ok t) = ⊥
+CastIs (Err found) (Err rule) = found ≡ rule
 
 -- ---- what a table keeps
 

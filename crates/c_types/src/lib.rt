@@ -2,10 +2,12 @@
 //! its operators (C11 6.5).
 #![tactic(auto)]
 
+mod assignment;
 mod form;
 mod integer;
 mod kinds;
 mod operand;
+mod places;
 mod qualifiers;
 mod rules;
 mod size;

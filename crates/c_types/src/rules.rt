@@ -12,7 +12,7 @@ use srmt_base::Op;
 
 impl Types {
     /// The number of a rule whose cases do not allow two operands, or 14 where one is void.
-    fn refused(&self, number: u8, a: TypeRef, b: TypeRef) -> u8
+    pub(crate) fn refused(&self, number: u8, a: TypeRef, b: TypeRef) -> u8
         ensures { result ≡ rule.refused_rule number (type_at self.now a) (type_at self.now b) }
     {
         if self.is_void(a) || self.is_void(b) {
@@ -173,7 +173,7 @@ impl Types {
 }
 
 /// The least of a rule and of what another one answers.
-fn beside<T: Copy>(holds: bool, number: u8, other: Result<T, u8>) -> Result<T, u8>
+pub(crate) fn beside<T: Copy>(holds: bool, number: u8, other: Result<T, u8>) -> Result<T, u8>
     ensures { result ≡ rule.beside holds number other }
 {
     match other {
