@@ -33,9 +33,9 @@ earlier-push : (rows : List Row) → WellMade rows → (x : Row) → IsMadeBelow
 earlier-push rows well x fits n z e =
     let later : Extends rows (rows ++ x ∷ []) = record { more = x ∷ []; is = refl } in
     elim (place-in-push rows x n z e) [
-      inl h ↦ let within = slice_get_within rows n z h in made-later rows _ later n (omega arith) z (well.earlier n z h)
-    | inr h ↦ subst (λ k. IsMadeBelow (types_of (rows ++ x ∷ [])) k z) (sym h.0)
-        (subst (IsMadeBelow (types_of (rows ++ x ∷ [])) (length rows)) (sym h.1) (made-later rows _ later (length rows) (omega arith) x fits))
+      | inl h ↦ let within = slice_get_within rows n z h in made-later rows _ later n (omega arith) z (well.earlier n z h)
+      | inr h ↦ subst (λ k. IsMadeBelow (types_of (rows ++ x ∷ [])) k z) (sym h.0)
+          (subst (IsMadeBelow (types_of (rows ++ x ∷ [])) (length rows)) (sym h.1) (made-later rows _ later (length rows) (omega arith) x fits))
     ]
 
 pub well-insert : (rows : List Row) → WellMade rows → (x : Row) → IsMadeBelow (types_of rows) (length rows) x
@@ -46,8 +46,8 @@ well-insert rows well x fits distinct = by (list_any ((equal.eq-value).it x) row
     by true e = subst WellMade (sym (ap (λ c. if c then rows else rows ++ x ∷ []) e)) well
     by false e = record {
       earlier = subst (λ new. (n : ℕ) (z : Row) → slice_get new n ≡ Some z → IsMadeBelow (types_of new) n z)
-        (sym (ap (λ c. if c then rows else rows ++ x ∷ []) e)) (earlier-push rows well x fits);
-      once = distinct-once (equal.eq-value).it row_same (insert_key (equal.eq-value).it rows x) distinct
+          (sym (ap (λ c. if c then rows else rows ++ x ∷ []) e)) (earlier-push rows well x fits);
+      once = distinct-once (equal.eq-value).it row_same (insert_key (equal.eq-value).it rows x) distinct;
     }
 
 -- the reference of a row that was added stands for what the row makes
@@ -55,7 +55,7 @@ pub stands-added : (old new : List Row) → Extends old new → WellMade new →
     → (n : ℕ) → slice_get new n ≡ Some x → Stands new (ref.Derived n) (row_type (types_of old) x)
 stands-added old new grown well x fits n e = record {
   always = λ later more.
-    type_at-later new later more (ref.Derived n) (slice_get_within new n x e)
+      type_at-later new later more (ref.Derived n) (slice_get_within new n x e)
       ∙ type_at-row new well (ref.Derived n) x e
-      ∙ row_type-later old new grown x fits
+      ∙ row_type-later old new grown x fits;
 }

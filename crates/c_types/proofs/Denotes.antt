@@ -59,6 +59,7 @@ row-denoted rows well n within down = by (slice_get rows n) refl
   where
     at : (x : Row) → slice_get rows n ≡ Some x → type_at rows (ref.Derived n) ≡ row_type (types_of rows) x
     at x e = type_at-row rows well (ref.Derived n) x e
+
     by : (o : Option Row) → slice_get rows n ≡ o → Denotes rows (ref.Derived n) (type_at rows (ref.Derived n))
     by None e = let beyond = past rows n e in absurd (omega arith)
     by (Some (row.Pointer q)) e = subst (Denotes rows (ref.Derived n)) (sym (at _ e)) (q.target, e, down q.target (well.earlier n _ e))
@@ -82,7 +83,7 @@ denoted rows well (suc bound) (ref.Derived n) b w =
 pub one-reference : (rows : List Row) → WellMade rows → (r s : TypeRef) → IsBelow (length rows) r → IsBelow (length rows) s → type_at rows r ≡ type_at rows s → r ≡ s
 one-reference rows well r s b d e =
     Denotes-once well (type_at rows r) r s (denoted rows well (length rows) r b b)
-      (subst (Denotes rows s) (sym e) (denoted rows well (length rows) s d d))
+    (subst (Denotes rows s) (sym e) (denoted rows well (length rows) s d d))
 
 -- equal references and one type are the same
 pub equal-references : (rows : List Row) → WellMade rows → (r s : TypeRef) → IsBelow (length rows) r → IsBelow (length rows) s

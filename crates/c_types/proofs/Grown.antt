@@ -75,13 +75,13 @@ made-at (y ∷ rows) ts zero x e b =
     let there = kept (ts ++ row_type ts y ∷ []) rows (length ts) _ (slice_get-last ts (row_type ts y)) in
     let stays = row_type-kept ts (y ∷ rows) x (subst (λ k. PartsBelow k x) at b) in
     subst (λ k. slice_get (types_from (ts ++ row_type ts y ∷ []) rows) k ≡ Some (row_type (types_from (ts ++ row_type ts y ∷ []) rows) x)) (sym at)
-      (there ∙ ap Some (ap (row_type ts) same ∙ sym stays))
+    (there ∙ ap Some (ap (row_type ts) same ∙ sym stays))
 made-at (y ∷ rows) ts (suc n) x e b =
     let longer = ts ++ row_type ts y ∷ [] in
     let l = length-append ts (row_type ts y ∷ []) in
     let at : length longer + n ≡ length ts + suc n = omega arith in
     subst (λ k. slice_get (types_from longer rows) k ≡ Some (row_type (types_from longer rows) x)) at
-      (made-at rows longer n x e (subst (λ k. PartsBelow k x) (sym at) b))
+    (made-at rows longer n x e (subst (λ k. PartsBelow k x) (sym at) b))
 
 pub type_at-row : (rows : List Row) → WellMade rows → (r : TypeRef) (x : Row) → row_at rows r ≡ Some x → type_at rows r ≡ row_type (types_of rows) x
 type_at-row rows well ref.Void x e = none_is_not e
@@ -97,7 +97,7 @@ length-types_of rows = let h = length-types_from [] rows in omega arith
 pub type_at-later : (old new : List Row) → Extends old new → (r : TypeRef) → IsBelow (length old) r → type_at new r ≡ type_at old r
 type_at-later old new later r b =
     ap (λ rows. type_at rows r) later.is ∙ ap (λ ts. type_in ts r) (types_from-append [] old later.more)
-      ∙ type_in-kept (types_of old) later.more r (subst (λ k. IsBelow k r) (sym (length-types_of old)) b)
+    ∙ type_in-kept (types_of old) later.more r (subst (λ k. IsBelow k r) (sym (length-types_of old)) b)
 
 pub below-more : (m n : ℕ) → m ≤ n → (r : TypeRef) → IsBelow m r → IsBelow n r
 below-more m n h ref.Void b = b
@@ -122,7 +122,7 @@ made-later old new later n within (row.Taking p t) b = b
 pub row_type-later : (old new : List Row) → Extends old new → (x : Row) → IsMadeBelow (types_of old) (length old) x → row_type (types_of new) x ≡ row_type (types_of old) x
 row_type-later old new later x fits =
     ap (λ rows. row_type (types_of rows) x) later.is ∙ ap (λ ts. row_type ts x) (types_from-append [] old later.more)
-      ∙ row_type-kept (types_of old) later.more x (subst (λ k. PartsBelow k x) (sym (length-types_of old)) (parts_of _ _ x fits))
+    ∙ row_type-kept (types_of old) later.more x (subst (λ k. PartsBelow k x) (sym (length-types_of old)) (parts_of _ _ x fits))
 
 pub past : (rows : List Row) (n : ℕ) → slice_get rows n ≡ None → length rows ≤ n
 past [] n e = omega arith
@@ -152,6 +152,7 @@ shape-below rows well n = by (slice_get rows n) refl
   where
     up : (x : Row) → slice_get rows n ≡ Some x → n ≤ length rows
     up x e = let h = slice_get_within rows n x e in omega arith
+
     by : (o : Option Row) → slice_get rows n ≡ o → IsShapedBelow (types_of rows) (length rows) (shape_of o)
     by None e = tt
     by (Some (row.Pointer q)) e = below-more n _ (up _ e) q.target (well.earlier n _ e)

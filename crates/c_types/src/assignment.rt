@@ -68,7 +68,12 @@ impl Types {
     }
 
     /// The same, where the left operand of the assignment has to be a modifiable lvalue.
-    pub fn assignment_form(&self, may_change: bool, target: TypeRef, from: OperandRef) -> Result<Conversion, u8>
+    pub fn assignment_form(
+        &self,
+        may_change: bool,
+        target: TypeRef,
+        from: OperandRef,
+    ) -> Result<Conversion, u8>
         ensures { result ≡ rule.assignment_form may_change (type_at self.now target) (operand_at self.now from) }
     {
         beside(may_change, 7, self.conversion_form(target, from))

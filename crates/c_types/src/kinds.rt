@@ -1,5 +1,5 @@
-ghost use Rattle.std.specs.Prelude.{◌≡◌, IfOk};
-ghost use Rattle.c_types.specs.Types.{is_void as void_type, is_integer as integer_type, is_scalar as scalar_type, is_object_pointer as object_pointer, is_complete_pointer as complete_pointer, is_function_pointer as function_pointer, is_pointer as pointer_type, is_function as function_type, is_complete as complete_type, ty_of, target_of, plain, decayed as decayed_type};
+ghost use Rattle.std.specs.Prelude.{◌≡◌, ◌==◌, length, IfOk};
+ghost use Rattle.c_types.specs.Types.{is_void as void_type, is_integer as integer_type, is_scalar as scalar_type, is_object_pointer as object_pointer, is_complete_pointer as complete_pointer, is_function_pointer as function_pointer, is_pointer as pointer_type, is_function as function_type, is_complete as complete_type, ty_of, target_of, parameters_of, decayed as decayed_type};
 ghost use Rattle.c_types.specs.Table.{size_of, type_at, qualified_at, Stands, StandsFor, Extends};
 
 use crate::integer::{integer_bytes, integer_cells};
@@ -8,13 +8,16 @@ use crate::size::Size;
 use crate::table::Types;
 use crate::type_ref::{QualifiedRef, Shape, TypeRef};
 use srmt_base::Ty;
+use std::alloc::AllocError;
+
+const PLAIN: Qualifiers = Qualifiers {
+    is_const: false,
+    is_volatile: false,
+};
 
 /// `void` without qualifiers.
 const UNQUALIFIED_VOID: QualifiedRef = QualifiedRef {
-    qualifiers: Qualifiers {
-        is_const: false,
-        is_volatile: false,
-    },
+    qualifiers: PLAIN,
     target: TypeRef::Void,
 };
 
@@ -136,5 +139,33 @@ impl Types {
         ensures { result ≡ function_pointer (type_at self.now of) }
     {
         self.is_pointer(of) && self.is_function(self.target(of).target)
+    }
+
+    /// The type to which an array or a function decays (C11 6.3.2.1p3, p4); another type stays.
+    pub fn decayed(&mut self, of: TypeRef) -> Result<TypeRef, AllocError>
+        ensures kept { Extends self.old self.new }
+        ensures made { IfOk result (λ r. Stands self.new r (decayed_type (type_at self.old of))) }
+    {
+        match self.shape(of) {
+            Shape::Array(element, _, _) => self.pointer_to(element),
+            Shape::Returning(_) | Shape::Taking(..) => self.pointer_to(QualifiedRef {
+                qualifiers: PLAIN,
+                target: of,
+            }),
+            Shape::Void => Ok(self.standing(of)),
+            Shape::Integer(_) => Ok(self.standing(of)),
+            Shape::Pointer(_) => Ok(self.standing(of)),
+        }
+    }
+
+    /// Whether a function has so many parameters.
+    pub fn has_parameters(&self, of: TypeRef, count: usize) -> bool
+        ensures { result ≡ (length (parameters_of (type_at self.now of)) == count) }
+    {
+        match self.shape(of) {
+            Shape::Taking(_, rest) => count > 0 && self.has_parameters(rest, count - 1),
+            Shape::Void | Shape::Integer(_) | Shape::Pointer(_) | Shape::Array(..) => count == 0,
+            Shape::Returning(_) => count == 0,
+        }
     }
 }

@@ -18,6 +18,9 @@ pub use form::{BinaryForm, ChoiceForm, Conversion};
 pub use integer::{integer_bytes, integer_cells, promoted, usual};
 pub use operand::OperandRef;
 pub use qualifiers::Qualifiers;
-pub use table::Types;
 pub use size::Size;
+pub use table::Types;
 pub use type_ref::{QualifiedRef, Shape, TypeRef};
+
+#[cfg(test)]
+mod tests;

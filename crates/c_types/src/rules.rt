@@ -83,7 +83,9 @@ impl Types {
     pub fn point_to_one(&self, a: TypeRef, b: TypeRef) -> bool
         ensures { result ≡ one_target (type_at self.now a) (type_at self.now b) }
     {
-        self.is_pointer(a) && self.is_pointer(b) && self.is_one(self.target(a).target, self.target(b).target)
+        self.is_pointer(a)
+            && self.is_pointer(b)
+            && self.is_one(self.target(a).target, self.target(b).target)
     }
 
     /// `-` (C11 6.5.6p3).
@@ -165,7 +167,13 @@ impl Types {
     }
 
     /// The same, where the left operand has to be a modifiable lvalue.
-    pub fn update_form(&self, op: Op, may_change: bool, a: TypeRef, b: TypeRef) -> Result<BinaryForm, u8>
+    pub fn update_form(
+        &self,
+        op: Op,
+        may_change: bool,
+        a: TypeRef,
+        b: TypeRef,
+    ) -> Result<BinaryForm, u8>
         ensures { result ≡ rule.update_form op may_change (type_at self.now a) (type_at self.now b) }
     {
         beside(may_change, 7, self.compound_form(op, a, b))
@@ -177,13 +185,7 @@ pub(crate) fn beside<T: Copy>(holds: bool, number: u8, other: Result<T, u8>) -> 
     ensures { result ≡ rule.beside holds number other }
 {
     match other {
-        Ok(form) => {
-            if holds {
-                Ok(form)
-            } else {
-                Err(number)
-            }
-        }
+        Ok(form) => { if holds { Ok(form) } else { Err(number) } }
         Err(least) => {
             if holds || least <= number {
                 Err(least)

@@ -59,7 +59,7 @@ impl Types {
     }
 
     /// The reference itself, or `void` where it is to no row.
-    fn known(&self, of: TypeRef) -> TypeRef
+    pub(crate) fn known(&self, of: TypeRef) -> TypeRef
         ensures below { IsBelow (length self.now) result }
         ensures same { type_at self.now result ≡ type_at self.now of }
     {
@@ -84,6 +84,13 @@ impl Types {
         self.known(a) == self.known(b)
     }
 
+    /// The same reference, or one that stands for the same type.
+    pub fn standing(&self, of: TypeRef) -> TypeRef
+        ensures { Stands self.now result (type_at self.now of) }
+    {
+        self.known(of)
+    }
+
     /// A pointer to a type.
     pub fn pointer_to(&mut self, target: QualifiedRef) -> Result<TypeRef, AllocError>
         ensures kept { Extends self.old self.new }
@@ -94,7 +101,11 @@ impl Types {
     }
 
     /// An array of elements of a type, or `None` where it has more than 65,535 cells.
-    pub fn array_of(&mut self, element: QualifiedRef, length: Option<u32>) -> Result<Option<TypeRef>, AllocError>
+    pub fn array_of(
+        &mut self,
+        element: QualifiedRef,
+        length: Option<u32>,
+    ) -> Result<Option<TypeRef>, AllocError>
         ensures kept { Extends self.old self.new }
         ensures large { IfOk result (λ r. IsNone r ↔ (65535 < cells_of (array_type (qualified_at self.old element) length))) }
         ensures made { IfOk result (λ r. IfSome r (λ array. Stands self.new array (array_type (qualified_at self.old element) length))) }

@@ -7,4 +7,4 @@ use Rattle.c_types.proofs.table.Types.target.Goals as goal
 pub returns-in-Pointer : goal.returns-in-Pointer
 returns-in-Pointer c =
     subst (λ t. StandsFor c.args.self.now c.in-Pointer.target (target_of t)) (sym c.in-Pointer.ensures.made)
-      (record { qualifiers = refl; type = Stands-below c.args.self.now c.in-Pointer.target.target c.in-Pointer.ensures.below })
+    (record { qualifiers = refl; type = Stands-below c.args.self.now c.in-Pointer.target.target c.in-Pointer.ensures.below })
