@@ -1,5 +1,6 @@
 -- The log of declarations, which leads back from what names mean now.
 use Rattle.std.specs.Prelude.{◌≡◌, ℕ, ◌<◌, map, List, [], ◌∷◌, ◌++◌, ◌⊎◌, length, take, Option, Some, None, slice_get, slice_index_or}
+use Rattle.std.specs.Map.{keys_of}
 use Rattle.std.specs.declared.vec.Vec.{Vec}
 use Rattle.std.specs.declared.alloc.Global.{Global}
 use Rattle.c_scopes.specs.declared.scopes.Entry.{Entry}
@@ -10,7 +11,7 @@ use Rattle.c_scopes.specs.Scopes.{meaning_of, with_meaning}
 module _ {M : Type 0} where
   -- the names of a map, and what they mean
   abbrev pub names_of : List (Vec ℕ Global × Option M) → List (List ℕ)
-  names_of entries = map (λ e. e.0.items) entries
+  names_of entries = map (λ k. k.items) (keys_of entries)
 
   abbrev pub meanings_of : List (Vec ℕ Global × Option M) → List (Option M)
   meanings_of entries = map (λ e. e.1) entries

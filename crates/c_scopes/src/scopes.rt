@@ -87,7 +87,8 @@ impl<M: Copy> Scopes<M> {
             return Ok(number);
         }
         let key = name.to_vec(alloc)?;
-        let (number, _) = names.insert_full(key, None)?;
+        let number = names.len();
+        names.insert(key, None)?;
         Ok(number)
     }
 
