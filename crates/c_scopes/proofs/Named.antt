@@ -29,7 +29,7 @@ in-take (y ∷ xs) (suc k) (suc j) x e = in-take xs k j x e
 more-or-last : (n i : ℕ) → i < n + 1 → (i < n) ⊎ (i ≡ n)
 more-or-last n i h = elim (leb_tells n i) [ inl k ↦ inr (omega arith) | inr k ↦ inl k.1 ]
 
-last-of : {A : Type 0} (xs : List A) (x d : A) → get_or (xs ++ x ∷ []) (length xs) d ≡ x
+pub last-of : {A : Type 0} (xs : List A) (x d : A) → get_or (xs ++ x ∷ []) (length xs) d ≡ x
 last-of [] x d = refl
 last-of (y ∷ xs) x d = last-of xs x d
 
@@ -145,3 +145,44 @@ module _ {M : Type 0} where
             ∙ ap (λ n. meaning_of n (scopes_of names (take k entries))) (sym (get_or_append_left names (name ∷ []) [] c.name within))
             ∙ ap (meaning_of (get_or (names ++ name ∷ []) c.name [])) (sym (scopes-grow names (name ∷ []) [] (take k entries) (λ j d f. before.known j d (in-take entries k j _ f))))
       }
+
+module _ {M : Type 0} where
+  abbrev pub flat : Option (Option M) → Option M
+  flat None = None
+  flat (Some m) = m
+
+  -- what is found under a name is what it means
+  pub found : (es : List (Vec ℕ Global × Option M)) (log : List (Entry M)) → LeadsBack (names_of es) (meanings_of es) log → (n : List ℕ)
+      → flat (lookup (test_of n) es) ≡ meaning_of n (scopes_of (names_of es) log)
+  found es log leads n = by (looked n es)
+    where
+      by : ((i : ℕ) × (i < length (names_of es)) × (get_or (names_of es) i [] ≡ n) × (lookup (test_of n) es ≡ Some (get_or (meanings_of es) i None)))
+          ⊎ ((lookup (test_of n) es ≡ None) × ((i : ℕ) → i < length (names_of es) → get_or (names_of es) i [] ≢ n))
+          → flat (lookup (test_of n) es) ≡ meaning_of n (scopes_of (names_of es) log)
+      by (inl h) = ap flat h.3 ∙ leads.now h.0 h.1 ∙ ap (λ k. meaning_of k (scopes_of (names_of es) log)) h.2
+      by (inr h) = ap flat h.0 ∙ sym (scopes-absent (names_of es) n h.1 [] refl log leads.known)
+
+  -- a new entry behind the others
+  pub names-push : (es new : List (Vec ℕ Global × Option M)) (k : Vec ℕ Global) → new ≡ es ++ (k, None) ∷ [] → names_of new ≡ names_of es ++ k.items ∷ []
+  names-push es new k e = ap names_of e ∙ by es
+    where
+      by : (xs : List (Vec ℕ Global × Option M)) → names_of (xs ++ (k, None) ∷ []) ≡ names_of xs ++ k.items ∷ []
+      by [] = refl
+      by (x ∷ xs) = ap (λ ns. x.0.items ∷ ns) (by xs)
+
+  pub meanings-push : (es new : List (Vec ℕ Global × Option M)) (k : Vec ℕ Global) → new ≡ es ++ (k, None) ∷ [] → meanings_of new ≡ meanings_of es ++ None ∷ []
+  meanings-push es new k e = ap meanings_of e ∙ by es
+    where
+      by : (xs : List (Vec ℕ Global × Option M)) → meanings_of (xs ++ (k, None) ∷ []) ≡ meanings_of xs ++ None ∷ []
+      by [] = refl
+      by (x ∷ xs) = ap (λ ms. x.1 ∷ ms) (by xs)
+
+  -- a name that is not found is not there
+  pub absent-name : (n : List ℕ) (es : List (Vec ℕ Global × Option M)) → lookup (test_of n) es ≡ None → (i : ℕ) → i < length (names_of es) → get_or (names_of es) i [] ≢ n
+  absent-name n es none i within = by (looked n es)
+    where
+      by : ((j : ℕ) × (j < length (names_of es)) × (get_or (names_of es) j [] ≡ n) × (lookup (test_of n) es ≡ Some (get_or (meanings_of es) j None)))
+          ⊎ ((lookup (test_of n) es ≡ None) × ((j : ℕ) → j < length (names_of es) → get_or (names_of es) j [] ≢ n))
+          → get_or (names_of es) i [] ≢ n
+      by (inl h) = none_is_not (sym none ∙ h.3)
+      by (inr h) = h.1 i within

@@ -1,13 +1,14 @@
-use Rattle.std.proofs.Common.{rules, ◌≡◌, ◌<◌, true, false, [], ◌∷◌, slice_index_or, IfOk, OnOk, OnErr, ℕ, ◌+◌, ◌-◌, ◌*◌, ◌≤◌, length, ◌/◌, ◌%◌, Bool, nat_eq, nat_lt, List, ◌++◌, slice_set, bit_and, bit_or, Fits, w8, w32, w64, Bor, MutBor}
-use Rattle.c_scopes.specs.Scopes.{meaning_of, with_meaning, innermost, outer_scopes, ShrinksBy}
-use Rattle.c_scopes.specs.Log.{names_of, IsNamed}
-use Rattle.indexmap.specs.IndexMap.{index_map_len}
+use Rattle.std.proofs.Common.{◌≡◌, sym, ap, ◌∙◌}
+use Rattle.c_scopes.specs.Scopes.{meaning_of}
+use Rattle.c_scopes.proofs.Named.{found, flat}
 use Rattle.c_scopes.proofs.scopes.Scopes.lookup.Goals as goal
 
--- src/scopes.rt:62:23
 pub returns-in_err-meaning : goal.returns-in_err-meaning
-returns-in_err-meaning g c = ?
+returns-in_err-meaning g c =
+    c.from_residual.ensures ∙ ap flat c.in_err-meaning.ensures.value
+      ∙ found c.self.inside.names.entries c.self.inside.log.items c.self.invariant c.args.name.now ∙ ap (meaning_of c.args.name.now) c.self.view_is
 
--- src/scopes.rt:59:5
 pub returns : goal.returns
-returns g c = ?
+returns g c =
+    ap flat c.in_ok-meaning.ensures.value
+      ∙ found c.self.inside.names.entries c.self.inside.log.items c.self.invariant c.args.name.now ∙ ap (meaning_of c.args.name.now) c.self.view_is
