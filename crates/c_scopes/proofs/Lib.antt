@@ -1,3 +1,4 @@
 pub mod Meanings
 pub mod Pushed
 pub mod Named
+pub mod Declares

@@ -27,7 +27,7 @@ front [] x n z e = none_is_not e
 front (y ∷ xs) x zero z e = e
 front (y ∷ xs) x (suc n) z e = front xs x n z e
 
-last : {A : Type 0} (xs : List A) (x : A) → slice_get (xs ++ x ∷ []) (length xs) ≡ Some x
+pub last : {A : Type 0} (xs : List A) (x : A) → slice_get (xs ++ x ∷ []) (length xs) ≡ Some x
 last [] x = refl
 last (y ∷ xs) x = last xs x
 

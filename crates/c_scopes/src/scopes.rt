@@ -97,7 +97,7 @@ impl<M: Copy> Scopes<M> {
         ensures declared { OnOk result (self.new ≡ with_meaning name.now meaning self.old) }
         ensures kept { OnErr result (self.new ≡ self.old) }
     {
-        if self.log.is_empty() {
+        if self.log.as_slice().is_empty() {
             return Ok(());
         }
         let name = Self::number(&mut self.names, alloc, name)?;
