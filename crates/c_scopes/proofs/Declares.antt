@@ -36,7 +36,7 @@ module _ {M : Type 0} where
       → LeadsBack (names_of (set_value_at es i w)) (meanings_of (set_value_at es i w)) log
   written-leads es i w log h =
       subst (λ ns. LeadsBack ns (meanings_of (set_value_at es i w)) log) (sym (names-set es i w))
-        (subst (λ ms. LeadsBack (names_of es) ms log) (sym (meanings-set es i w)) h)
+      (subst (λ ms. LeadsBack (names_of es) ms log) (sym (meanings-set es i w)) h)
 
   declared-behind : (names : List (List ℕ)) (current : List (Option M)) (log : List (Entry M)) (c : Change M) → (length log == 0) ≡ false
       → LeadsBack names current log → c.name < length names → c.before ≡ meaning_of (get_or names c.name []) (scopes_of names log)
@@ -59,17 +59,17 @@ module _ {M : Type 0} where
       let leads = (named old new n log d.grown d.leads).0 in
       let within = subst (λ l. c.name < l) (sym (length-names new)) d.within in
       subst (LeadsBack (names_of (set_value_at new c.name (Some c.meaning))) (meanings_of (set_value_at new c.name (Some c.meaning)))) (sym e)
-        (written-leads new c.name (Some c.meaning) (log ++ Declared c ∷ [])
-          (declared-behind (names_of new) (meanings_of new) log c d.some leads within (d.before ∙ leads.now c.name within)))
+      (written-leads new c.name (Some c.meaning) (log ++ Declared c ∷ [])
+      (declared-behind (names_of new) (meanings_of new) log c d.some leads within (d.before ∙ leads.now c.name within)))
 
   pub declares-scopes : (old new : List (Vec ℕ Global × Option M)) (n : List ℕ) (log after : List (Entry M)) (c : Change M) → Declares old new n log c → after ≡ log ++ Declared c ∷ []
       → scopes_of (names_of (set_value_at new c.name (Some c.meaning))) after ≡ with_meaning n c.meaning (scopes_of (names_of old) log)
   declares-scopes old new n log after c d e =
       ap (λ ns. scopes_of ns after) (names-set new c.name (Some c.meaning))
-        ∙ ap (scopes_of (names_of new)) e
-        ∙ scopes-push (names_of new) log (Declared c)
-        ∙ ap (λ k. with_meaning k c.meaning (scopes_of (names_of new) log)) d.found
-        ∙ ap (with_meaning n c.meaning) (named old new n log d.grown d.leads).1
+      ∙ ap (scopes_of (names_of new)) e
+      ∙ scopes-push (names_of new) log (Declared c)
+      ∙ ap (λ k. with_meaning k c.meaning (scopes_of (names_of new) log)) d.found
+      ∙ ap (with_meaning n c.meaning) (named old new n log d.grown d.leads).1
 
   -- ---- back again
 
@@ -98,7 +98,7 @@ module _ {M : Type 0} where
       let h = scope-before names log c (subst Starts e leads.starts) in
       let new : scopes_of (names_of (set_value_at es c.name c.before)) log ≡ h.0 ∷ h.1 = ap (λ ns. scopes_of ns log) (names-set es c.name c.before) ∙ h.2 in
       let old : ((get_or names c.name [], c.meaning) ∷ h.0) ∷ h.1 ≡ now =
-          sym (ap (with_meaning (get_or names c.name []) c.meaning) h.2) ∙ sym (scopes-push names log (Declared c)) ∙ sym (ap (scopes_of names) e) ∙ is in
+      sym (ap (with_meaning (get_or names c.name []) c.meaning) h.2) ∙ sym (scopes-push names log (Declared c)) ∙ sym (ap (scopes_of names) e) ∙ is in
       subst (λ s. ShrinksBy s (scopes_of (names_of (set_value_at es c.name c.before)) log)) old new
 
   pub begun-scopes : (names : List (List ℕ)) (log before : List (Entry M)) (now : List (List (List ℕ × M))) → before ≡ log ++ Begin ∷ [] → scopes_of names before ≡ now

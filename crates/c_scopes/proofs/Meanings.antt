@@ -51,7 +51,7 @@ module _ {M : Type 0} where
   scopes-grow names more s (Begin ∷ log) known = scopes-grow names more ([] ∷ s) log (λ k c e. known (suc k) c e)
   scopes-grow names more s (Declared c ∷ log) known =
       ap (λ n. scopes_from (names ++ more) (with_meaning n c.meaning s) log) (get_or_append_left names more [] c.name (known zero c refl))
-        ∙ scopes-grow names more (step names s (Declared c)) log (λ k d e. known (suc k) d e)
+      ∙ scopes-grow names more (step names s (Declared c)) log (λ k d e. known (suc k) d e)
 
   -- a name that is not among them means nothing
   pub scopes-absent : (names : List (List ℕ)) (n : List ℕ) → ((i : ℕ) → i < length names → get_or names i [] ≢ n)
@@ -63,8 +63,8 @@ module _ {M : Type 0} where
   scopes-absent names n absent s none (Begin ∷ log) known = scopes-absent names n absent ([] ∷ s) none log (λ k c e. known (suc k) c e)
   scopes-absent names n absent s none (Declared c ∷ log) known =
       scopes-absent names n absent (step names s (Declared c))
-        (meaning-other n (get_or names c.name []) c.meaning s (λ e. absent c.name (known zero c refl) (sym e)) ∙ none)
-        log (λ k d e. known (suc k) d e)
+      (meaning-other n (get_or names c.name []) c.meaning s (λ e. absent c.name (known zero c refl) (sym e)) ∙ none)
+      log (λ k d e. known (suc k) d e)
 
   -- a log that begins with a scope has one
   pub has-scope : (names : List (List ℕ)) (s : List (List ℕ × M)) (o : List (List (List ℕ × M))) (log : List (Entry M))

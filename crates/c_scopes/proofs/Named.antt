@@ -80,6 +80,7 @@ module _ {M : Type 0} where
     where
       none-below : (k : ℕ) → k < 0 → ⊥
       none-below k h = omega arith
+
       nowhere : (k : ℕ) → position (test_of n) (keys_of {X = Option M} []) ≡ Some k → position {X = ℕ} (λ j. true) [] ≡ Some k
       nowhere k h = h
   position-name n (x ∷ es) i e =
@@ -110,14 +111,14 @@ module _ {M : Type 0} where
       → get_or (current ++ None ∷ []) i None ≡ meaning_of (get_or (names ++ name ∷ []) i []) (scopes_of (names ++ name ∷ []) log)
   now-more names current name log before absent i (inl h) =
       get_or_append_left current (None ∷ []) None i (subst (λ z. i < z) (sym before.sized) h)
-        ∙ before.now i h
-        ∙ ap (λ n. meaning_of n (scopes_of names log)) (sym (get_or_append_left names (name ∷ []) [] i h))
-        ∙ ap (meaning_of (get_or (names ++ name ∷ []) i [])) (sym (scopes-grow names (name ∷ []) [] log before.known))
+      ∙ before.now i h
+      ∙ ap (λ n. meaning_of n (scopes_of names log)) (sym (get_or_append_left names (name ∷ []) [] i h))
+      ∙ ap (meaning_of (get_or (names ++ name ∷ []) i [])) (sym (scopes-grow names (name ∷ []) [] log before.known))
   now-more names current name log before absent i (inr h) =
       ap (λ z. get_or (current ++ None ∷ []) z None) (h ∙ sym before.sized) ∙ last-of current None None
-        ∙ sym (scopes-absent names name absent [] refl log before.known)
-        ∙ ap (λ n. meaning_of n (scopes_of names log)) (sym (last-of names name []) ∙ ap (λ z. get_or (names ++ name ∷ []) z []) (sym h))
-        ∙ ap (meaning_of (get_or (names ++ name ∷ []) i [])) (sym (scopes-grow names (name ∷ []) [] log before.known))
+      ∙ sym (scopes-absent names name absent [] refl log before.known)
+      ∙ ap (λ n. meaning_of n (scopes_of names log)) (sym (last-of names name []) ∙ ap (λ z. get_or (names ++ name ∷ []) z []) (sym h))
+      ∙ ap (meaning_of (get_or (names ++ name ∷ []) i [])) (sym (scopes-grow names (name ∷ []) [] log before.known))
 
   -- a log leads back where a name is added that means nothing yet
   pub named : (old new : List (Vec ℕ Global × Option M)) (n : List ℕ) (log : List (Entry M)) → IsNamed old new n
@@ -126,10 +127,11 @@ module _ {M : Type 0} where
       (subst (λ es. LeadsBack (names_of es) (meanings_of es) log) (sym same) leads, ap (λ es. scopes_of (names_of es) log) same)
   named old new n log (inr more) leads =
       let names = names_of old in
-      let grown : scopes_of (names ++ n ∷ []) log ≡ scopes_of names log = scopes-grow names (n ∷ []) [] log leads.known in
-      (subst (λ ns. LeadsBack ns (meanings_of new) log) (sym more.0)
-          (subst (λ ms. LeadsBack (names ++ n ∷ []) ms log) (sym more.1) (longer names (meanings_of old) n log leads more.2)),
-        ap (λ ns. scopes_of ns log) more.0 ∙ grown)
+      let grown : scopes_of (names ++ n ∷ []) log ≡ scopes_of names log = scopes-grow names (n ∷ []) [] log leads.known in (
+        subst (λ ns. LeadsBack ns (meanings_of new) log) (sym more.0)
+            (subst (λ ms. LeadsBack (names ++ n ∷ []) ms log) (sym more.1) (longer names (meanings_of old) n log leads more.2)),
+        ap (λ ns. scopes_of ns log) more.0 ∙ grown,
+      )
     where
       longer : (names : List (List ℕ)) (current : List (Option M)) (name : List ℕ) (entries : List (Entry M)) → LeadsBack names current entries
           → ((i : ℕ) → i < length names → get_or names i [] ≡ name → ⊥) → LeadsBack (names ++ name ∷ []) (current ++ None ∷ []) entries
@@ -140,10 +142,10 @@ module _ {M : Type 0} where
         now = λ i h. now-more names current name entries before absent i (more-or-last (length names) i (subst (λ z. i < z) (length-append names (name ∷ [])) h));
         known = λ k c e. let within = before.known k c e in subst (λ z. c.name < z) (sym (length-append names (name ∷ []))) (omega arith);
         back = λ k c e.
-          let within = before.known k c e in
-          before.back k c e
+            let within = before.known k c e in
+            before.back k c e
             ∙ ap (λ n. meaning_of n (scopes_of names (take k entries))) (sym (get_or_append_left names (name ∷ []) [] c.name within))
-            ∙ ap (meaning_of (get_or (names ++ name ∷ []) c.name [])) (sym (scopes-grow names (name ∷ []) [] (take k entries) (λ j d f. before.known j d (in-take entries k j _ f))))
+            ∙ ap (meaning_of (get_or (names ++ name ∷ []) c.name [])) (sym (scopes-grow names (name ∷ []) [] (take k entries) (λ j d f. before.known j d (in-take entries k j _ f))));
       }
 
 module _ {M : Type 0} where

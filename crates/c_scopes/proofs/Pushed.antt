@@ -75,14 +75,14 @@ module _ {M : Type 0} where
     apart = leads.apart;
     now = λ i h. leads.now i h ∙ sym (ap (meaning_of (get_or names i [])) (scopes-push names log Begin));
     known = λ k c e. elim (place-in-push log Begin k (Declared c) e) [
-      inl h ↦ leads.known k c h
-    | inr h ↦ absurd (true≢false (sym (ap is-begin h.1)))
+      | inl h ↦ leads.known k c h
+      | inr h ↦ absurd (true≢false (sym (ap is-begin h.1)))
     ];
     back = λ k c e. elim (place-in-push log Begin k (Declared c) e) [
-      inl h ↦ let within = slice_get_within log k _ h in
-        leads.back k c h ∙ ap (λ l. meaning_of (get_or names c.name []) (scopes_of names l)) (sym (taken log Begin k (omega arith)))
-    | inr h ↦ absurd (true≢false (sym (ap is-begin h.1)))
-    ]
+      | inl h ↦ let within = slice_get_within log k _ h in
+          leads.back k c h ∙ ap (λ l. meaning_of (get_or names c.name []) (scopes_of names l)) (sym (taken log Begin k (omega arith)))
+      | inr h ↦ absurd (true≢false (sym (ap is-begin h.1)))
+    ];
   }
 
   -- a scope that has just begun goes away
@@ -94,7 +94,7 @@ module _ {M : Type 0} where
     now = λ i h. leads.now i h ∙ ap (meaning_of (get_or names i [])) (scopes-push names log Begin);
     known = λ k c e. leads.known k c (front log Begin k _ e);
     back = λ k c e. let within = slice_get_within log k _ e in
-      leads.back k c (front log Begin k _ e) ∙ ap (λ l. meaning_of (get_or names c.name []) (scopes_of names l)) (taken log Begin k (omega arith))
+        leads.back k c (front log Begin k _ e) ∙ ap (λ l. meaning_of (get_or names c.name []) (scopes_of names l)) (taken log Begin k (omega arith));
   }
 
   -- what each name means after a write
@@ -109,7 +109,7 @@ module _ {M : Type 0} where
       by true e =
           let same = eqb-true i n e in
           subst (λ k. get_or (set current n m) k None ≡ meaning_of (get_or names k []) new) (sym same)
-            (get_or-set_same current n m None (subst (λ s. n < s) (sym sized) within) ∙ here)
+          (get_or-set_same current n m None (subst (λ s. n < s) (sym sized) within) ∙ here)
       by false e =
           let ne : i ≢ n = λ same. true≢false (sym (eq-eqb i n same) ∙ e) in
           get_or-set_other current n i m None ne ∙ others i h ne
@@ -132,21 +132,21 @@ module _ {M : Type 0} where
             (λ j k ne. leads.now j k ∙ sym (meaning-other _ _ c.meaning (scopes_of names old) (other-name names leads.apart j c.name k within ne)))
             within
             (sym (ap (λ s. meaning_of (get_or names c.name []) (with_meaning (get_or names c.name []) c.meaning s)) scope.2
-              ∙ meaning-same (get_or names c.name []) c.meaning scope.0 scope.1))
+            ∙ meaning-same (get_or names c.name []) c.meaning scope.0 scope.1))
             i h ∙ sym (ap (meaning_of (get_or names i [])) now);
         known = λ k d e. elim (place-in-push old (Declared c) k (Declared d) e) [
-          inl h ↦ leads.known k d h
-        | inr h ↦ subst (λ z. z.name < length names) (sym (ap (change-in c) h.1)) within
+          | inl h ↦ leads.known k d h
+          | inr h ↦ subst (λ z. z.name < length names) (sym (ap (change-in c) h.1)) within
         ];
         back = λ k d e. elim (place-in-push old (Declared c) k (Declared d) e) [
-          inl h ↦ let inside = slice_get_within old k _ h in
-            leads.back k d h ∙ ap (λ l. meaning_of (get_or names d.name []) (scopes_of names l)) (sym (taken old (Declared c) k (omega arith)))
-        | inr h ↦
-            let same : d ≡ c = ap (change-in c) h.1 in
-            subst (λ z. z.before ≡ meaning_of (get_or names z.name []) (scopes_of names (take k (old ++ Declared c ∷ [])))) (sym same)
+          | inl h ↦ let inside = slice_get_within old k _ h in
+              leads.back k d h ∙ ap (λ l. meaning_of (get_or names d.name []) (scopes_of names l)) (sym (taken old (Declared c) k (omega arith)))
+          | inr h ↦
+              let same : d ≡ c = ap (change-in c) h.1 in
+              subst (λ z. z.before ≡ meaning_of (get_or names z.name []) (scopes_of names (take k (old ++ Declared c ∷ [])))) (sym same)
               (before ∙ ap (λ l. meaning_of (get_or names c.name []) (scopes_of names l))
-                (sym (ap (λ j. take j (old ++ Declared c ∷ [])) h.0 ∙ taken old (Declared c) (length old) (omega arith) ∙ all-taken old)))
-        ]
+              (sym (ap (λ j. take j (old ++ Declared c ∷ [])) h.0 ∙ taken old (Declared c) (length old) (omega arith) ∙ all-taken old)))
+        ];
       }
 
   -- a declaration goes away
@@ -166,5 +166,5 @@ module _ {M : Type 0} where
             within before;
         known = λ k d e. leads.known k d (front log (Declared c) k _ e);
         back = λ k d e. let inside = slice_get_within log k _ e in
-          leads.back k d (front log (Declared c) k _ e) ∙ ap (λ l. meaning_of (get_or names d.name []) (scopes_of names l)) (taken log (Declared c) k (omega arith))
+            leads.back k d (front log (Declared c) k _ e) ∙ ap (λ l. meaning_of (get_or names d.name []) (scopes_of names l)) (taken log (Declared c) k (omega arith));
       }

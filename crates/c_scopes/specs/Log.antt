@@ -52,4 +52,4 @@ module _ {M : Type 0} where
   IsNamed old new name =
       (new ≡ old) ⊎
       ((names_of new ≡ names_of old ++ name ∷ []) × (meanings_of new ≡ meanings_of old ++ None ∷ [])
-        × ((i : ℕ) → i < length (names_of old) → slice_index_or (names_of old) i [] ≡ name → ⊥))
+      × ((i : ℕ) → i < length (names_of old) → slice_index_or (names_of old) i [] ≡ name → ⊥))

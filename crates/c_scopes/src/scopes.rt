@@ -1,4 +1,4 @@
-ghost use Rattle.std.specs.Prelude.{◌≡◌, ◌<◌, true, false, [], ◌∷◌, slice_index_or, IfOk, OnOk, OnErr};
+ghost use Rattle.std.specs.Prelude.{◌≡◌, ◌<◌, ◌^◌, length, true, false, [], ◌∷◌, slice_index_or, IfOk, OnOk, OnErr};
 ghost use Rattle.c_scopes.specs.Scopes.{meaning_of, with_meaning, innermost, outer_scopes, ShrinksBy};
 ghost use Rattle.c_scopes.specs.Log.{names_of, IsNamed};
 ghost use Rattle.indexmap.specs.IndexMap.{index_map_len};
@@ -26,7 +26,7 @@ enum Entry<M: Copy> {
 
 /// The scopes at a place of a program, and what each name means there.
 #[derive(Drop)]
-pub struct Scopes<M: Copy> {
+pub(crate) struct Scopes<M: Copy> {
     /// What each name means now.
     names: IndexMap<Vec<u8>, Option<M>>,
     log: Vec<Entry<M>>,
@@ -66,6 +66,7 @@ impl<M: Copy> Scopes<M> {
     /// Begins a scope.
     pub fn open(&mut self) -> Result<(), AllocError>
         ensures opened { OnOk result (self.new ≡ [] ∷ self.old) }
+        ensures few { OnOk result (length self.new < 2 ^ 63) }
         ensures kept { OnErr result (self.new ≡ self.old) }
     {
         self.log.push(Entry::Begin)?;
@@ -102,7 +103,11 @@ impl<M: Copy> Scopes<M> {
         }
         let name = Self::number(&mut self.names, alloc, name)?;
         let before = self.names[name];
-        self.log.push(Entry::Declared(Change { name, meaning, before }))?;
+        self.log.push(Entry::Declared(Change {
+            name,
+            meaning,
+            before,
+        }))?;
         self.names[name] = Some(meaning);
         Ok(())
     }

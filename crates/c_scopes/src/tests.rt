@@ -1,11 +1,11 @@
-use crate::Scopes;
+use crate::Blocks;
 use std::rt::HostRuntime;
 use std::test::Fail;
 
 /// What `x` and `y` mean in and around a block of `int x; { int x, y; }`, each declaration by its number.
 #[test]
 fn blocks(rt: HostRuntime) -> Result<(), Fail> {
-    let mut scopes: Scopes<u8> = Scopes::new(rt.alloc());
+    let mut scopes: Blocks<u8> = Blocks::new(rt.alloc());
     scopes.open()?;
     assert!(&rt; scopes.lookup(b"x").is_none());
     scopes.declare(rt.alloc(), b"x", 1)?;
