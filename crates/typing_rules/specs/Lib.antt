@@ -1,0 +1,3 @@
+-- Read in this order: Source, Known, Ordered.
+pub mod Source
+pub mod Known
