@@ -9,3 +9,4 @@ pub mod SpecifierRules
 pub mod DeclaratorRules
 pub mod OrderedParts
 pub mod Ordered
+pub mod Exact
