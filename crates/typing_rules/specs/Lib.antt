@@ -10,3 +10,5 @@ pub mod DeclaratorRules
 pub mod OrderedParts
 pub mod Ordered
 pub mod Exact
+pub mod Constraints
+pub mod TypingParts

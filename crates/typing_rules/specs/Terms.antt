@@ -1,5 +1,5 @@
 -- How the nodes of the typed tree are made of their parts. Nothing here tests anything.
-use Rattle.std.specs.Prelude.{ℕ, suc, ◌==◌, Bool as Test, true, false, if◌then◌else◌, List, [], ◌∷◌, Option, Some, None}
+use Rattle.std.specs.Prelude.{ℕ, suc, ◌==◌, Bool as Test, true, false, ◌&&◌, if◌then◌else◌, List, [], ◌∷◌, Option, Some, None}
 use Rattle.srmt_base.specs.declared.ty.Ty.{Ty}
 use Rattle.srmt_base.specs.declared.ty.Ty.TheVariants.{Bool, Int, UInt, Char}
 use Rattle.srmt_base.specs.declared.op.Op.{Op}
@@ -43,7 +43,7 @@ written_type w = type_of w.value
 
 -- whether a value is a null pointer constant
 abbrev pub operand_of : Value → Operand
-operand_of v = record { type = type_of v; is_null = is_zero (constant_of v) }
+operand_of v = record { type = type_of v; is_null = is_integer (type_of v) && is_zero (constant_of v) }
 
 -- ---- values
 
