@@ -1,7 +1,7 @@
 -- What a declarator makes of the type of its specifiers (C11 6.7.6).
 use Rattle.std.specs.Prelude.{ℕ, ◌==◌, nat_le, nat_lt, Bool as Test, true, false, not, ◌&&◌, ◌||◌, if◌then◌else◌, List, [], ◌∷◌, map, length, Option, Some, None, Result, Ok, Err, is_none}
 use Rattle.c_types.specs.declared.qualifiers.Qualifiers.{Qualifiers}
-use Rattle.c_types.specs.Types.{CType, Qualified, unqualified, is_void, is_array, is_function, is_complete, pointer_to, array_of, function_of, cells_of, adjusted}
+use Rattle.c_types.specs.Types.{CType, Qualified, unqualified, is_void, is_integer, is_array, is_function, is_complete, pointer_to, array_of, function_of, cells_of, adjusted}
 use Rattle.c_types.specs.Rules.{Ruled}
 use Rattle.c_tree.specs.declared.specifier.SpecifierWord.{SpecifierWord}
 use Rattle.c_tree.specs.declared.specifier.SpecifierWord.TheVariants.{Void}
@@ -87,7 +87,10 @@ constant_length (Number n) = if nat_lt 0 n && nat_le n most_cells then Ok n else
 
 -- the length of an array (C11 6.7.6.2p1)
 abbrev pub length_of : Value → Ruled ℕ
-length_of v = if is_void (type_of v) then Err 14 else constant_length (constant_of v)
+length_of v =
+    if is_void (type_of v) then Err 14
+    else if is_integer (type_of v) then constant_length (constant_of v)
+    else Err 15
 
 -- ---- derived types
 

@@ -12,3 +12,5 @@ pub mod Ordered
 pub mod Exact
 pub mod Constraints
 pub mod TypingParts
+pub mod Declarators
+pub mod Typing
