@@ -117,3 +117,11 @@ exact_given (Some a) refusal = record {
 exact_given None refusal = record {
     found = λ x k l e. absurd cc;
     whole = λ x k l q. absurd cc }
+
+-- a test in front of what holds only where the test does
+pub exact_beside : {A : Type 0} (test : Test) (refusal : TypeRefusal) {m : Checking A} {R : Typing A}
+    → Exact m R → ((x : A) (k l : Known) → R x k l → IsTrue test) → Exact (c.◌>>◌ (needs test refusal) m) R
+exact_beside true refusal h s = record { found = λ x k l e. h.found x k l e; whole = λ x k l q. h.whole x k l q }
+exact_beside false refusal h s = record {
+    found = λ x k l e. absurd (err_no_ok refusal (x, l) e);
+    whole = λ x k l q. absurd (let p : IsTrue false = s x k l q in cc) }

@@ -1,3 +1,5 @@
 pub mod Exactness
 pub mod RulesAllow
 pub mod PartsExact
+pub mod DeclaratorsExact
+pub mod TermsExact

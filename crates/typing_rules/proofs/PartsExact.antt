@@ -21,7 +21,8 @@ use Rattle.typing_rules.specs.Exact.{Exact}
 use Rattle.typing_rules.specs.OrderedParts.{designated, valued, written, meant, named, counted, text_term, indexed, indirect, marked, address_of, opposite, promoted, negative, complemented, computed, tested_both, conjoined, disjoined, chosen, target_of, assigned, changed, cast_to, unvalued, sized, called, passed, arguments_for, counted_type, call_through, call_of, linked_term}
 use Rattle.typing_rules.specs.TypingParts.{IsDesignated, IsValue, IsWritten, IsMeant, IsNamed, AreCounted, IsText, IsIndexed, IsIndirect, IsMarked, IsAddress, IsOpposite, IsPromoted, IsNegative, IsComplement, IsComputed, AreTested, IsConjunction, IsDisjunction, IsChosen, IsTarget, IsAssigned, IsChanged, IsCast, IsUnvalued, IsSized, IsCalled, ArePassed, IsCounted, IsCallThrough, IsCall}
 use Rattle.typing_rules.specs.Constraints.{Converts}
-use Rattle.typing_rules.proofs.Exactness.{exact_pure, exact_refuse, exact_asks, exact_makes, exact_bind, exact_needs, exact_ruled, exact_given}
+use Rattle.std.proofs.lemmas.Bool.{leb-true, le-leb, eqb-true, eq-eqb}
+use Rattle.typing_rules.proofs.Exactness.{exact_pure, exact_refuse, exact_asks, exact_makes, exact_bind, exact_needs, exact_ruled, exact_given, exact_beside}
 use Rattle.typing_rules.proofs.RulesAllow.{NullIsInteger, unary_allows, tested_allows, binary_allows, update_allows, conversion_allows, assignment_allows, choice_allows, indirection_allows, index_allows, callee_allows, cast_allows, sizeof_allows}
 
 pub null_is_integer : (v : Value) → NullIsInteger (operand_of v)
@@ -51,8 +52,8 @@ exact_meant line (Some (known.constant n)) = exact_pure _
 pub exact_named : (line : ℕ) (bytes : Bytes) → Exact (named line bytes) (IsNamed line bytes)
 exact_named line bytes = exact_bind (exact_asks _) (exact_meant line)
 
-at_most : (a b : ℕ) → IsTrue (nat_le a b) ↔ (a ≤ b)
-at_most a b = ?at_most
+pub at_most : (a b : ℕ) → IsTrue (nat_le a b) ↔ (a ≤ b)
+at_most a b = (leb-true a b, le-leb a b)
 
 pub exact_counted : (line cells : ℕ) → Exact (counted line cells) (AreCounted cells)
 exact_counted line cells =
@@ -156,3 +157,30 @@ exact_passed at (p ∷ ps) [] = exact_refuse (Mismatch at 11)
 exact_passed at (p ∷ ps) (a ∷ xs) =
     exact_bind (exact_ruled at _ _ (λ f. conversion_allows p (operand_of a.value) f (null_is_integer a.value)))
     (λ form. exact_bind (exact_passed at ps xs) (λ rest. exact_pure _))
+
+-- where arguments are passed, there are as many as parameters
+as_many : (ps : List CType) (xs : List Written) (vs : Values) (k l : Known) → ArePassed ps xs vs k l → length ps ≡ length xs
+as_many [] [] vs k l h = refl
+as_many [] (a ∷ xs) vs k l h = absurd h
+as_many (p ∷ ps) [] vs k l h = absurd h
+as_many (p ∷ ps) (a ∷ xs) vs k l h = ap suc (as_many ps xs h.second.of h.between h.second.between h.second.first)
+
+pub exact_arguments : (at : ℕ) (type : CType) (xs : List Written) → Exact (arguments_for at type xs) (ArePassed (parameters_of type) xs)
+exact_arguments at type xs = exact_beside _ _ (exact_passed at (parameters_of type) xs) (λ vs k l h. eq-eqb _ _ (as_many (parameters_of type) xs vs k l h))
+
+pub exact_counted_type : (line : ℕ) (type : CType) → Exact (counted_type line type) (IsCounted type)
+exact_counted_type line type =
+    exact_bind (exact_makes _) (λ u. exact_bind (exact_asks _) (λ all. exact_needs _ _ (TooLarge line Types) (at_most all most_types)))
+
+pub exact_call_through : (line at : ℕ) (v : Value) (xs : List Written) → Exact (call_through line at v xs) (IsCallThrough line at v xs)
+exact_call_through line at v xs =
+    exact_bind (exact_ruled at _ _ (callee_allows (type_of v))) (λ type.
+    exact_bind (exact_arguments at type xs) (λ vs.
+    exact_bind (exact_counted_type at type) (λ u. exact_pure _)))
+
+pub exact_call : (line at : ℕ) (term : Term) (xs : List Written) → Exact (call_of line at term xs) (IsCall line at term xs)
+exact_call line at (object p) xs = exact_call_through line at _ xs
+exact_call line at (result v) xs = exact_call_through line at v xs
+exact_call line at (designator first (entity n main) type) xs = exact_bind (exact_arguments at type xs) (λ vs. exact_pure _)
+exact_call line at (designator first (predeclared p) type) xs = exact_bind (exact_arguments at type xs) (λ vs. exact_pure _)
+exact_call line at (designator first (through v) type) xs = exact_call_through line at v xs
