@@ -1,2 +1,4 @@
 pub mod Typed
 pub mod Constants
+pub mod Starts
+pub mod Statements

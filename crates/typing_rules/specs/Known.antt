@@ -2,6 +2,7 @@
 use Rattle.std.specs.Prelude.{ℕ, zero, suc, ◌+◌, ◌==◌, Bool as Test, true, false, ◌&&◌, ◌||◌, if◌then◌else◌, List, [], ◌∷◌, ◌++◌, length, Option, Some, None, slice_get, slice_set, bytes_eq}
 use Rattle.srmt_base.specs.declared.ty.Ty.TheVariants.{Int}
 use Rattle.c_types.specs.Types.{CType, void, integer, Qualified, unqualified, plain, function_of, is_array, same_type}
+use Rattle.c_typed.specs.Statements.{StartCell}
 use Rattle.typing_rules.specs.Source.{Bytes}
 
 -- the main file or the binary file
@@ -85,6 +86,13 @@ pub record Entity : Type 0 where
   pub is_external : Test
   pub file : File
   pub definition : Definition
+  -- what the given cells of an object start with
+  pub contents : List StartCell
+
+-- the first declaration of an entity in a file, with the line of the name
+pub record First : Type 0 where
+  pub entity : ℕ
+  pub line : ℕ
 
 -- a string literal that is an object, with the line of its first token
 pub record Text : Type 0 where
@@ -98,12 +106,13 @@ pub record Use : Type 0 where
 
 pub record Known : Type 0 where
   pub file : File
-  -- the innermost first; the last but one is the file's, and the last has what is declared outside of it
+  -- of the blocks and lists of parameters around, the innermost first
   pub scopes : List Scope
+  pub file_scope : Scope
   -- by their number, in the order of their first declaration in either file
   pub entities : List Entity
   -- those that this file declares, in the order of their first declaration in it
-  pub declared : List ℕ
+  pub declared : List First
   -- of the function
   pub locals : List Local
   -- of this file
@@ -120,7 +129,7 @@ abbrev pub no_local : Local
 no_local = record { name = None; line = 0; first = 0; type = unqualified void; is_addressed = false }
 
 abbrev pub no_entity : Entity
-no_entity = record { name = []; type = unqualified void; is_external = false; file = main_file; definition = undefined }
+no_entity = record { name = []; type = unqualified void; is_external = false; file = main_file; definition = undefined; contents = [] }
 
 abbrev pub or_local : Option Local → Local
 or_local None = no_local
@@ -144,10 +153,25 @@ main_bytes = 109 ∷ 97 ∷ 105 ∷ 110 ∷ []
 abbrev pub is_main : Entity → Test
 is_main e = bytes_eq e.name main_bytes && (e.is_external || same_file e.file main_file)
 
+-- ---- what is declared outside of every file
+
 abbrev pub type_of_predeclared : Predeclared → CType
 type_of_predeclared the_putchar = function_of (integer Int ∷ []) (unqualified (integer Int))
 type_of_predeclared the_getchar = function_of [] (unqualified (integer Int))
 type_of_predeclared the_exit = function_of (integer Int ∷ []) (unqualified void)
+
+-- `putchar`, `getchar`, `exit`, `EOF` and `NULL`
+abbrev pub predeclared_scope : Scope
+predeclared_scope =
+    record { name = 112 ∷ 117 ∷ 116 ∷ 99 ∷ 104 ∷ 97 ∷ 114 ∷ []; meaning = predeclared the_putchar } ∷
+    record { name = 103 ∷ 101 ∷ 116 ∷ 99 ∷ 104 ∷ 97 ∷ 114 ∷ []; meaning = predeclared the_getchar } ∷
+    record { name = 101 ∷ 120 ∷ 105 ∷ 116 ∷ []; meaning = predeclared the_exit } ∷
+    record { name = 69 ∷ 79 ∷ 70 ∷ []; meaning = constant 4294967295 } ∷
+    record { name = 78 ∷ 85 ∷ 76 ∷ 76 ∷ []; meaning = constant 0 } ∷
+    []
+
+abbrev pub all_scopes : Known → List Scope
+all_scopes k = k.scopes ++ k.file_scope ∷ predeclared_scope ∷ []
 
 abbrev pub is_among : CType → List CType → Test
 is_among t [] = false
@@ -196,3 +220,46 @@ addressed n k = with_locals (slice_set k.locals n (addressed_local (local_at k.l
 
 abbrev pub with_local : Local → Known → Known
 with_local l k = with_locals (k.locals ++ l ∷ []) k
+
+-- ---- objects and functions with linkage
+
+-- a name of file scope, with its entity and the type that the declarations of this file give it
+pub record Linked : Type 0 where
+  pub entity : ℕ
+  pub type : Qualified
+
+abbrev pub linked_as : Option Meaning → Option Linked
+linked_as None = None
+linked_as (Some (local n)) = None
+linked_as (Some (linked n type)) = Some (record { entity = n; type = type })
+linked_as (Some (predeclared p)) = None
+linked_as (Some (constant n)) = None
+
+-- what a name means at file scope so far
+abbrev pub earlier : Bytes → Known → Option Linked
+earlier name k = linked_as (found_in name k.file_scope)
+
+-- the entity with external linkage that has a name, by its number from one on
+abbrev pub external_from : ℕ → Bytes → List Entity → Option ℕ
+external_from n name [] = None
+external_from n name (e ∷ rest) = if bytes_eq name e.name && e.is_external then Some n else external_from (suc n) name rest
+
+abbrev pub with_file_meaning : Bytes → Meaning → Known → Known
+with_file_meaning name m k = record k { file_scope = record { name = name; meaning = m } ∷ k.file_scope }
+
+abbrev pub with_entities : List Entity → Known → Known
+with_entities entities k = record k { entities = entities }
+
+abbrev pub with_entity_at : ℕ → Entity → Known → Known
+with_entity_at n e k = with_entities (slice_set k.entities n e) k
+
+abbrev pub is_declared_among : ℕ → List First → Test
+is_declared_among n [] = false
+is_declared_among n (f ∷ rest) = (n == f.entity) || is_declared_among n rest
+
+-- an entity is declared in this file, perhaps for the first time
+abbrev pub declared_first : ℕ → ℕ → Known → Known
+declared_first n line k = if is_declared_among n k.declared then k else record k { declared = k.declared ++ record { entity = n; line = line } ∷ [] }
+
+abbrev pub local_completed : ℕ → Qualified → Known → Known
+local_completed n type k = with_locals (slice_set k.locals n (record (local_at k.locals n) { type = type })) k

@@ -1,5 +1,6 @@
 -- Read in this order: Source, Known, Ordered.
 pub mod Source
+pub mod SourceUnits
 pub mod Known
 pub mod Limits
 pub mod Checking
@@ -7,6 +8,7 @@ pub mod Holding
 pub mod Terms
 pub mod SpecifierRules
 pub mod DeclaratorRules
+pub mod DeclarationRules
 pub mod OrderedParts
 pub mod Ordered
 pub mod Exact
@@ -14,3 +16,5 @@ pub mod Constraints
 pub mod TypingParts
 pub mod Declarators
 pub mod Typing
+pub mod OrderedDeclarations
+pub mod OrderedStatements

@@ -59,7 +59,7 @@ meant line (Some (known.predeclared p)) = pure (designator line (predeclared p) 
 meant line (Some (known.constant n)) = pure (result (number_value line Int n))
 
 abbrev pub named : ℕ → Bytes → Checking Term
-named line bytes = asks (λ k. meaning_of bytes k.scopes) >>= meant line
+named line bytes = asks (λ k. meaning_of bytes (known.all_scopes k)) >>= meant line
 
 -- a file has room for more static cells
 abbrev pub counted : ℕ → ℕ → Checking (Unit {0})

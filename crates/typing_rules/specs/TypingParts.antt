@@ -51,7 +51,7 @@ IsMeant line (Some (known.predeclared p)) = Is (designator line (predeclared p) 
 IsMeant line (Some (known.constant n)) = Is (result (number_value line Int n))
 
 abbrev pub IsNamed : ℕ → Bytes → Typing Term
-IsNamed line bytes = Asks (λ k. meaning_of bytes k.scopes) >>= IsMeant line
+IsNamed line bytes = Asks (λ k. meaning_of bytes (known.all_scopes k)) >>= IsMeant line
 
 -- more static cells of a file, which has room for them
 abbrev pub AreCounted : ℕ → Typing (Unit {0})
