@@ -18,3 +18,5 @@ pub mod Declarators
 pub mod Typing
 pub mod OrderedDeclarations
 pub mod OrderedStatements
+pub mod UnitRules
+pub mod OrderedUnits
