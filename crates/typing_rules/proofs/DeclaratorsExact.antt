@@ -23,7 +23,7 @@ use Rattle.typing_rules.specs.Holding.{Typing}
 use Rattle.typing_rules.specs.Exact.{Exact}
 use Rattle.typing_rules.specs.OrderedParts.{specified, declares, named_local, parameter, parameter_list}
 use Rattle.typing_rules.specs.Declarators.{Says, AreSpecified, IsLength, DerivesType, IsDerived, IsParameterType, IsDeclared, IsNamedLocal, IsParameter, IsParameterList}
-use Rattle.typing_rules.proofs.Exactness.{exact_pure, exact_refuse, exact_asks, exact_makes, exact_bind, exact_needs, exact_ruled, exact_given, exact_choose, exact_from_result, allowed_same, refused_no_ok, some_same}
+use Rattle.typing_rules.proofs.Exactness.{exact_pure, exact_refuse, exact_asks, exact_makes, exact_bind, exact_needs, exact_tests, exact_ruled, exact_given, exact_choose, exact_from_result, allowed_same, refused_no_ok, some_same}
 
 specified_allows : (test : Test) (o : Option CType) (words : List SpecifierWord) (s : Specified)
     → (Path (Ruled Specified) (if test then specified_as o words else Err 21) (Ok s)) ↔ (IsTrue test × ((t : CType) × (o ≡ Some t) × (s ≡ record { storage = storage_in words; type = record { qualifiers = qualifiers_in words; type = t } })))
@@ -67,13 +67,13 @@ parameter_allows at base ds u = go (derived at true base ds) refl (derived_allow
 
 -- ---- names and parameters
 
-is_there : (o : Option Meaning) → IsTrue (is_none o) ↔ (o ≡ None)
+pub is_there : (o : Option Meaning) → IsTrue (is_none o) ↔ (o ≡ None)
 is_there None = ((λ e. refl), (λ e. refl))
 is_there (Some m) = ((λ e. absurd cc), (λ e. absurd cc))
 
 pub exact_declares : (name : Named) (m : Meaning) → Exact (declares name m) (IsDeclared name m)
 exact_declares name m =
-    exact_bind (exact_asks _) (λ scope. exact_bind (exact_needs _ _ (Twice name.line) (is_there (found_in name.bytes scope))) (λ u. exact_makes _))
+    exact_bind (exact_tests _ _ (Twice name.line) (λ k. is_there (found_in name.bytes (innermost k.scopes)))) (λ u. exact_makes _)
 
 exact_named_local : (name : Option Named) (n : ℕ) → Exact (named_local name n) (IsNamedLocal name n)
 exact_named_local None n = exact_pure tt

@@ -5,8 +5,8 @@ use Rattle.c_types.specs.Rules.{Ruled}
 use Rattle.typing_rules.specs.declared.refusal.TypeRefusal.{TypeRefusal}
 use Rattle.typing_rules.specs.Known.{Known}
 use Rattle.typing_rules.specs.Checking as c
-use Rattle.typing_rules.specs.Checking.{Checking, Checked, and_then, pure, refuse, asks, makes, choose, needs, ruled_by, given, from_result}
-use Rattle.typing_rules.specs.Holding.{Typing, Sequence, Is, Such, Given, Asks, Makes, Either, Never}
+use Rattle.typing_rules.specs.Checking.{Checking, Checked, and_then, pure, refuse, asks, makes, choose, needs, tests, ruled_by, given, from_result}
+use Rattle.typing_rules.specs.Holding.{Typing, Sequence, Is, Such, Given, Holds, Asks, Makes, Either, Never}
 use Rattle.typing_rules.specs.Exact.{Exact}
 
 abbrev kept : {A : Type 0} → A × Known → Checked A → A × Known
@@ -74,6 +74,11 @@ exact_needs true P refusal h = record {
 exact_needs false P refusal h = record {
     found = λ x k l e. absurd (err_no_ok refusal (x, l) e);
     whole = λ x k l q. absurd (let p : IsTrue false = h.1 q.0 in cc) }
+
+pub exact_tests : (test : Known → Test) (P : Known → Type 0) (refusal : TypeRefusal) → ((k : Known) → IsTrue (test k) ↔ P k) → Exact (tests test refusal) (Holds P)
+exact_tests test P refusal h = record {
+    found = λ x k l e. (exact_needs (test k) (P k) refusal (h k)).found x k l e;
+    whole = λ x k l q. (exact_needs (test k) (P k) refusal (h k)).whole x k l q }
 
 abbrev allowed : {A E : Type 0} → A → Result A E → A
 allowed d (Ok a) = a

@@ -22,7 +22,7 @@ use Rattle.typing_rules.specs.OrderedParts.{designated, valued, written, meant, 
 use Rattle.typing_rules.specs.TypingParts.{IsDesignated, IsValue, IsWritten, IsMeant, IsNamed, AreCounted, IsText, IsIndexed, IsIndirect, IsMarked, IsAddress, IsOpposite, IsPromoted, IsNegative, IsComplement, IsComputed, AreTested, IsConjunction, IsDisjunction, IsChosen, IsTarget, IsAssigned, IsChanged, IsCast, IsUnvalued, IsSized, IsCalled, ArePassed, IsCounted, IsCallThrough, IsCall}
 use Rattle.typing_rules.specs.Constraints.{Converts}
 use Rattle.std.proofs.lemmas.Bool.{leb-true, le-leb, eqb-true, eq-eqb}
-use Rattle.typing_rules.proofs.Exactness.{exact_pure, exact_refuse, exact_asks, exact_makes, exact_bind, exact_needs, exact_ruled, exact_given, exact_beside}
+use Rattle.typing_rules.proofs.Exactness.{exact_pure, exact_refuse, exact_asks, exact_makes, exact_bind, exact_needs, exact_tests, exact_ruled, exact_given, exact_beside}
 use Rattle.typing_rules.proofs.RulesAllow.{NullIsInteger, unary_allows, tested_allows, binary_allows, update_allows, conversion_allows, assignment_allows, choice_allows, indirection_allows, index_allows, callee_allows, cast_allows, sizeof_allows}
 
 pub null_is_integer : (v : Value) → NullIsInteger (operand_of v)
@@ -57,7 +57,7 @@ at_most a b = (leb-true a b, le-leb a b)
 
 pub exact_counted : (line cells : ℕ) → Exact (counted line cells) (AreCounted cells)
 exact_counted line cells =
-    exact_bind (exact_asks _) (λ before. exact_bind (exact_needs _ _ _ (at_most (before + cells) most_static_cells)) (λ u. exact_makes _))
+    exact_bind (exact_tests _ _ (TooLarge line Statics) (λ k. at_most (k.static_cells + cells) most_static_cells)) (λ u. exact_makes _)
 
 pub exact_text : (line : ℕ) (bytes : Bytes) → Exact (text_term line bytes) (IsText line bytes)
 exact_text line bytes =
@@ -170,7 +170,7 @@ exact_arguments at type xs = exact_beside _ _ (exact_passed at (parameters_of ty
 
 pub exact_counted_type : (line : ℕ) (type : CType) → Exact (counted_type line type) (IsCounted type)
 exact_counted_type line type =
-    exact_bind (exact_makes _) (λ u. exact_bind (exact_asks _) (λ all. exact_needs _ _ (TooLarge line Types) (at_most all most_types)))
+    exact_bind (exact_makes _) (λ u. exact_tests _ _ (TooLarge line Types) (λ k. at_most (length k.types) most_types))
 
 pub exact_call_through : (line at : ℕ) (v : Value) (xs : List Written) → Exact (call_through line at v xs) (IsCallThrough line at v xs)
 exact_call_through line at v xs =

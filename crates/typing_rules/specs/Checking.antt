@@ -43,6 +43,10 @@ choose test m n = λ k. if test then m k else n k
 abbrev pub needs : Test → TypeRefusal → Checking (Unit {0})
 needs test refusal = choose test (pure tt) (refuse refusal)
 
+-- goes on only where a test holds of what is known
+abbrev pub tests : (Known → Test) → TypeRefusal → Checking (Unit {0})
+tests test refusal = λ k. needs (test k) refusal k
+
 -- what a rule on types allows, or a mismatch at a line
 abbrev pub ruled_by : {A : Type 0} → ℕ → Ruled A → Checking A
 ruled_by line (Ok a) = pure a

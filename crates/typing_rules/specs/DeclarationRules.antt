@@ -10,7 +10,7 @@ use Rattle.c_typed.specs.Statements.{Cell, Initializer, scalar, cells, StartCell
 use Rattle.typing_rules.specs.Source.{Bytes, Expr, at, name, number, character, text, parenthesized, index, call, prefix, postfix, sizeof_expr, sizeof_type, cast, binary, conjunction, disjunction, choice, assignment, compound, comma}
 use Rattle.typing_rules.specs.SourceUnits.{Initial, single, braced, Initials, no_initials, first_initial}
 use Rattle.typing_rules.specs.Known.{Known, File, same_file, Definition, undefined, tentative, defined, Entity, entity_at, Linked, external_from, with_entities, with_entity_at}
-use Rattle.typing_rules.specs.SpecifierRules.{Storage, no_storage, static_storage, extern_storage}
+use Rattle.typing_rules.specs.SpecifierRules.{Storage, no_word, static_word, extern_word}
 use Rattle.typing_rules.specs.Terms.{Written, converted, number_value}
 
 -- ---- linkage
@@ -23,10 +23,10 @@ as_before (Some l) entities = (entity_at entities l.entity).is_external
 -- whether a name has external linkage: with `static` it has internal linkage, as an object without a storage word it
 -- has external linkage, and else that of the earlier declaration (C11 6.2.2p3, p4, p5)
 abbrev pub linkage : Storage → Test → Option Linked → List Entity → Test
-linkage static_storage is_function before entities = false
-linkage no_storage true before entities = as_before before entities
-linkage no_storage false before entities = true
-linkage extern_storage is_function before entities = as_before before entities
+linkage static_word is_function before entities = false
+linkage no_word true before entities = as_before before entities
+linkage no_word false before entities = true
+linkage extern_word is_function before entities = as_before before entities
 
 -- the entity that is declared again: that of the earlier declaration at file scope, or else the one of the name with
 -- external linkage that another scope or file declares (C11 6.2.2p2)

@@ -12,7 +12,7 @@ use Rattle.typing_rules.specs.Limits.{most_parameters, most_cells}
 use Rattle.typing_rules.specs.SpecifierRules.{Specified, storage_fits, storage_in, qualifiers_in, named_by, namings}
 use Rattle.typing_rules.specs.DeclaratorRules.{Derivation, to_pointer, to_array, to_function, name_of, is_empty_list, fits_cells, parameter_type}
 use Rattle.typing_rules.specs.OrderedParts.{parameter_local}
-use Rattle.typing_rules.specs.Holding.{Typing, ◌>>=◌, ◌>>◌, Is, Such, Given, Asks, Makes, Either}
+use Rattle.typing_rules.specs.Holding.{Typing, ◌>>=◌, ◌>>◌, Is, Such, Holds, Asks, Makes, Either}
 
 -- specifiers name one type, and have storage words only where these may stand (C11 6.7.1p2, 6.7.2p2)
 abbrev pub Says : Test → List SpecifierWord → Specified → Type 0
@@ -52,8 +52,7 @@ IsParameterType base ds u = (t : Qualified) × IsDerived true base ds t × IsFal
 -- a name is declared once in a scope (C11 6.7p3)
 abbrev pub IsDeclared : Named → Meaning → Typing (Unit {0})
 IsDeclared name m = do
-  scope ← Asks (λ k. innermost k.scopes)
-  Given (found_in name.bytes scope ≡ None)
+  Holds (λ k. found_in name.bytes (innermost k.scopes) ≡ None)
   Makes (known.meaning name.bytes m)
 
 abbrev pub IsNamedLocal : Option Named → ℕ → Typing (Unit {0})

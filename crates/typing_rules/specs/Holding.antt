@@ -32,6 +32,10 @@ Such P x before after = P x × (after ≡ before)
 abbrev pub Given : Type 0 → Typing (Unit {0})
 Given P x before after = P × (after ≡ before)
 
+-- this holds of what is known
+abbrev pub Holds : (Known → Type 0) → Typing (Unit {0})
+Holds P x before after = P before × (after ≡ before)
+
 -- what is known
 abbrev pub Asks : {A : Type 0} → (Known → A) → Typing A
 Asks f x before after = (x ≡ f before) × (after ≡ before)

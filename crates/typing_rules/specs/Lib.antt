@@ -20,3 +20,6 @@ pub mod OrderedDeclarations
 pub mod OrderedStatements
 pub mod UnitRules
 pub mod OrderedUnits
+pub mod TypingDeclarations
+pub mod TypingStatements
+pub mod TypingUnits

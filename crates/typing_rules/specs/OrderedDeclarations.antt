@@ -13,10 +13,10 @@ use Rattle.typing_rules.specs.Known as known
 use Rattle.typing_rules.specs.Known.{Known, Linked, Local, Meaning, Predeclared, entity_at, earlier, all_scopes, innermost, found_in, predeclared_scope, type_of_predeclared}
 use Rattle.typing_rules.specs.Limits.{most_cells}
 use Rattle.typing_rules.specs.Terms.{Written, operand_of, converted_by}
-use Rattle.typing_rules.specs.SpecifierRules.{Storage, no_storage, Specified}
+use Rattle.typing_rules.specs.SpecifierRules.{Storage, no_word, Specified}
 use Rattle.typing_rules.specs.DeclaratorRules.{Derivation, Lines, lines_of, name_of, first_of_declarator, derived}
 use Rattle.typing_rules.specs.DeclarationRules.{linkage, entity_of, agrees_before, agrees_with, has_linkage, number_of, type_known, declared_entity, TextAt, text_for, text_cells, text_fits, byte_cells, completed, initializer_of, is_past}
-use Rattle.typing_rules.specs.Checking.{Checking, ◌>>=◌, ◌>>◌, pure, refuse, asks, makes, choose, needs, ruled_by, from_result}
+use Rattle.typing_rules.specs.Checking.{Checking, ◌>>=◌, ◌>>◌, pure, refuse, asks, makes, choose, needs, tests, ruled_by, from_result}
 use Rattle.typing_rules.specs.OrderedParts.{written, specified, declares}
 use Rattle.typing_rules.specs.Ordered.{term_of, derivations_of}
 
@@ -29,10 +29,8 @@ links name storage type = do
   external ← asks (λ k. linkage storage (is_function type.type) before k.entities)
   old ← asks (λ k. entity_of before external name.bytes k.entities)
   needs (agrees_before before type) (Mismatch name.line 17)
-  agrees ← asks (λ k. agrees_with old type k.entities)
-  needs agrees (Mismatch name.line 17)
-  alike ← asks (λ k. has_linkage old external k.entities)
-  needs alike (Twice name.line)
+  tests (λ k. agrees_with old type k.entities) (Mismatch name.line 17)
+  tests (λ k. has_linkage old external k.entities) (Twice name.line)
   n ← asks (λ k. number_of old k.entities)
   makes (declared_entity old name.bytes type external)
   makes (known.declared_first n name.line)
@@ -118,7 +116,7 @@ predeclared_again name type p = do
 
 abbrev pub linked_in_block : Named → Qualified → Checking Meaning
 linked_in_block name type = do
-  l ← links name no_storage type
+  l ← links name no_word type
   pure (known.linked l.entity l.type)
 
 abbrev pub function_meaning : Named → Qualified → Option Meaning → Checking Meaning
@@ -136,8 +134,7 @@ no_initial at (Some x) = misshapen at x
 -- a function in a block is seen in the block alone
 abbrev pub function_in_block : Named → Qualified → Option Initial → Checking (List LocalItem)
 function_in_block name type x = do
-  scope ← asks (λ k. innermost k.scopes)
-  needs (is_none (found_in name.bytes scope)) (Twice name.line)
+  tests (λ k. is_none (found_in name.bytes (innermost k.scopes))) (Twice name.line)
   m ← function_meaning name type (found_in name.bytes predeclared_scope)
   makes (known.meaning name.bytes m)
   no_initial name.line x

@@ -17,7 +17,7 @@ use Rattle.typing_rules.specs.Limits.{most_cells, most_static_cells, most_types}
 use Rattle.typing_rules.specs.Terms.{Term, object, result, designator, Designated, entity, predeclared, through, Written, written_type, operand_of, number_value, value_at, converted, promoted_value, converted_by, binary_value, negated_value, minus_value, complement_value, choice_value, element_place, Target, may_change, Change, changed_value, assigned_value, cast_value, sizeof_value, predeclared_node, text_type}
 use Rattle.typing_rules.specs.DeclaratorRules.{Derivation, Lines, lines_of, name_of, first_of_declarator, is_empty_list, derived, parameter_of}
 use Rattle.typing_rules.specs.SpecifierRules.{Specified, specified_by}
-use Rattle.typing_rules.specs.Checking.{Checking, ◌>>=◌, ◌>>◌, pure, refuse, asks, makes, choose, needs, ruled_by, given, from_result}
+use Rattle.typing_rules.specs.Checking.{Checking, ◌>>=◌, ◌>>◌, pure, refuse, asks, makes, choose, needs, tests, ruled_by, given, from_result}
 
 -- ---- values
 
@@ -64,8 +64,7 @@ named line bytes = asks (λ k. meaning_of bytes (known.all_scopes k)) >>= meant 
 -- a file has room for more static cells
 abbrev pub counted : ℕ → ℕ → Checking (Unit {0})
 counted line cells = do
-  before ← asks (λ k. k.static_cells)
-  needs (nat_le (before + cells) most_static_cells) (TooLarge line Statics)
+  tests (λ k. nat_le (k.static_cells + cells) most_static_cells) (TooLarge line Statics)
   makes (known.with_cells cells)
 
 -- a text is an object of its own (C11 6.4.5p6)
@@ -231,8 +230,7 @@ arguments_for at type xs = do
 abbrev pub counted_type : ℕ → CType → Checking (Unit {0})
 counted_type line type = do
   makes (known.with_type type)
-  all ← asks (λ k. length k.types)
-  needs (nat_le all most_types) (TooLarge line Types)
+  tests (λ k. nat_le (length k.types) most_types) (TooLarge line Types)
 
 abbrev pub call_through : ℕ → ℕ → Value → List Written → Checking Term
 call_through line at v xs = do
@@ -260,8 +258,7 @@ specified may_store s = ruled_by s.line (specified_by may_store s.words)
 -- a name gets its meaning in the innermost scope, where it has none yet
 abbrev pub declares : Named → Meaning → Checking (Unit {0})
 declares name m = do
-  scope ← asks (λ k. innermost k.scopes)
-  needs (is_none (found_in name.bytes scope)) (Twice name.line)
+  tests (λ k. is_none (found_in name.bytes (innermost k.scopes))) (Twice name.line)
   makes (known.meaning name.bytes m)
 
 -- a new local with its number, under its name if it has one

@@ -10,11 +10,11 @@ use Rattle.typing_rules.specs.SourceUnits.{Initial, Item, Declaration, Definitio
 use Rattle.typing_rules.specs.Known as known
 use Rattle.typing_rules.specs.Known.{Known, Linked, Meaning, Predeclared, entity_at, found_in, predeclared_scope, type_of_predeclared}
 use Rattle.typing_rules.specs.Limits.{most_functions}
-use Rattle.typing_rules.specs.SpecifierRules.{Storage, no_storage, static_storage, extern_storage}
+use Rattle.typing_rules.specs.SpecifierRules.{Storage, no_word, static_word, extern_word}
 use Rattle.typing_rules.specs.DeclaratorRules.{lines_of, name_of, derived}
 use Rattle.typing_rules.specs.DeclarationRules.{Defining, tentatively, fully, may_define, is_undefined, with_definition, composed, starts_of}
 use Rattle.typing_rules.specs.UnitRules.{own_parameters, function_opened, function_closed, row_of, typed_file, no_file, nothing_known, binary_begun, main_from, unresolved}
-use Rattle.typing_rules.specs.Checking.{Checking, ◌>>=◌, ◌>>◌, pure, refuse, asks, makes, choose, needs, given, from_result}
+use Rattle.typing_rules.specs.Checking.{Checking, ◌>>=◌, ◌>>◌, pure, refuse, asks, makes, choose, needs, tests, given, from_result}
 use Rattle.typing_rules.specs.OrderedParts.{specified, counted, counted_type}
 use Rattle.typing_rules.specs.Ordered.{derivations_of}
 use Rattle.typing_rules.specs.OrderedDeclarations.{links, no_initial, initialized, Initialized, or_no_name}
@@ -24,8 +24,7 @@ use Rattle.typing_rules.specs.OrderedStatements.{items_of}
 abbrev pub defines : Defining → ℕ → ℕ → Checking Test
 defines how line n = do
   before ← asks (λ k. (entity_at k.entities n).definition)
-  may ← asks (λ k. may_define how before k.file)
-  needs may (Twice line)
+  tests (λ k. may_define how before k.file) (Twice line)
   makes (with_definition how n)
   pure (is_undefined before)
 
@@ -36,9 +35,9 @@ counted_if test line type = choose test (counted line (cells_of type.type)) (pur
 -- ---- objects
 
 abbrev pub is_extern : Storage → Test
-is_extern no_storage = false
-is_extern static_storage = false
-is_extern extern_storage = true
+is_extern no_word = false
+is_extern static_word = false
+is_extern extern_word = true
 
 abbrev pub defined_tentatively : ℕ → Linked → Checking (Unit {0})
 defined_tentatively line l = do
@@ -56,8 +55,7 @@ defined_with name l type x = do
   first ← defines fully name.line l.entity
   counted_if (first && is_complete l.type.type) name.line l.type
   done ← initialized true name.line type x
-  whole ← asks (λ k. (entity_at k.entities l.entity).type)
-  needs (may_be_one done.type l.type && may_be_one done.type whole) (Mismatch name.line 17)
+  tests (λ k. may_be_one done.type l.type && may_be_one done.type (entity_at k.entities l.entity).type) (Mismatch name.line 17)
   counted_if (first && not (is_complete l.type.type)) name.line done.type
   makes (with_contents name l done)
 
@@ -106,8 +104,7 @@ function_begun name storage type = do
   l ← links name storage type
   makes (known.with_file_meaning name.bytes (known.linked l.entity l.type))
   defines fully name.line l.entity
-  earlier ← asks (λ k. k.functions)
-  needs (nat_le (suc earlier) most_functions) (TooLarge name.line Functions)
+  tests (λ k. nat_le (suc k.functions) most_functions) (TooLarge name.line Functions)
   counted_type name.line type.type
   pure l.entity
 
@@ -158,8 +155,7 @@ program_of main binary = do
   second ← binary_of binary
   begin ← asks (λ k. main_from 0 k.entities)
   n ← given begin NoMain
-  first_unresolved ← asks (λ k. unresolved k.entities k.uses)
-  resolves first_unresolved
+  asks (λ k. unresolved k.entities k.uses) >>= resolves
   all ← asks (λ k. length k.entities)
   pure (record { main_file = first; binary_file = second; entities = all; main = n })
 

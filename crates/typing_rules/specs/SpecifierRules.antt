@@ -9,7 +9,7 @@ use Rattle.c_tree.specs.declared.specifier.SpecifierWord.TheVariants.{Static, Ex
 
 -- where a declaration stands: at file scope a storage word may be among its specifiers
 pub data Storage : Type 0 where
-  no_storage static_storage extern_storage : Storage
+  no_word static_word extern_word : Storage
 
 -- what the specifiers of a declaration say
 pub record Specified : Type 0 where
@@ -89,7 +89,7 @@ abbrev pub qualifiers_in : List SpecifierWord → Qualifiers
 qualifiers_in words = record { is_const = stands_in Const words; is_volatile = stands_in Volatile words }
 
 abbrev pub storage_in : List SpecifierWord → Storage
-storage_in words = if stands_in Static words then static_storage else if stands_in Extern words then extern_storage else no_storage
+storage_in words = if stands_in Static words then static_word else if stands_in Extern words then extern_word else no_word
 
 -- at most one storage word, and none where none may stand (C11 6.7.1p2, 6.7.6.3p2)
 abbrev pub storage_fits : Test → List SpecifierWord → Test

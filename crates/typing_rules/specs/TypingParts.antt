@@ -15,7 +15,7 @@ use Rattle.typing_rules.specs.OrderedParts.{linked_term, pointed_term, parameter
 use Rattle.typing_rules.specs.DeclaratorRules.{Derivation, lines_of, name_of, is_empty_list}
 use Rattle.typing_rules.specs.SpecifierRules.{Specified}
 use Rattle.typing_rules.specs.Constraints.{Promotes, IsTested, Operates, Updates, Converts, Assigns, Chooses, PointsTo, Indexes, Calls, CastsTo, HasSize}
-use Rattle.typing_rules.specs.Holding.{Typing, ◌>>=◌, ◌>>◌, Is, Such, Given, Asks, Makes, Either, Never}
+use Rattle.typing_rules.specs.Holding.{Typing, ◌>>=◌, ◌>>◌, Is, Such, Given, Holds, Asks, Makes, Either, Never}
 
 -- ---- values
 
@@ -56,8 +56,7 @@ IsNamed line bytes = Asks (λ k. meaning_of bytes (known.all_scopes k)) >>= IsMe
 -- more static cells of a file, which has room for them
 abbrev pub AreCounted : ℕ → Typing (Unit {0})
 AreCounted cells = do
-  before ← Asks (λ k. k.static_cells)
-  Given (before + cells ≤ most_static_cells)
+  Holds (λ k. k.static_cells + cells ≤ most_static_cells)
   Makes (known.with_cells cells)
 
 -- a text is an object of its own (C11 6.4.5p6)
@@ -222,8 +221,7 @@ ArePassed (p ∷ ps) (a ∷ xs) = do
 abbrev pub IsCounted : CType → Typing (Unit {0})
 IsCounted type = do
   Makes (known.with_type type)
-  all ← Asks (λ k. length k.types)
-  Given (all ≤ most_types)
+  Holds (λ k. length k.types ≤ most_types)
 
 abbrev pub IsCallThrough : ℕ → ℕ → Value → List Written → Typing Term
 IsCallThrough line at v xs = do
