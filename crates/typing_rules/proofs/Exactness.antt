@@ -1,5 +1,5 @@
 -- What is made of exact parts is exact.
-use Rattle.std.proofs.Common.{◌≡◌, ℕ, ◌≤◌, Bool as Test, true, false, List, refl, ap, sym, ◌∙◌, Option, Some, None, Result, Ok, Err, inl, inr, ◌⊎◌, ◌↔◌, arith}
+use Rattle.std.proofs.Common.{◌≡◌, ℕ, ◌≤◌, Bool as Test, true, false, List, refl, ap, sym, subst, ◌∙◌, Option, Some, None, Result, Ok, Err, inl, inr, ◌⊎◌, ◌↔◌, arith}
 use Rattle.std.specs.Prelude.{if◌then◌else◌, nat_le, IsTrue, IsFalse}
 use Rattle.c_types.specs.Rules.{Ruled}
 use Rattle.typing_rules.specs.declared.refusal.TypeRefusal.{TypeRefusal}
@@ -130,3 +130,19 @@ exact_beside true refusal h s = record { found = λ x k l e. h.found x k l e; wh
 exact_beside false refusal h s = record {
     found = λ x k l e. absurd (err_no_ok refusal (x, l) e);
     whole = λ x k l q. absurd (let p : IsTrue false = s x k l q in cc) }
+
+-- what is refused in the end has no typing
+pub exact_refused : {A B : Type 0} (m : Checking A) (refusal : TypeRefusal) → Exact {A = B} (c.◌>>◌ m (refuse refusal)) Never
+exact_refused m refusal = record {
+    found = λ y k l e. let p = and_then_ok (m k) (λ u. refuse refusal) (y, l) e in err_no_ok refusal (y, l) p.2;
+    whole = λ y k l q. absurd q }
+
+-- a test that may not hold, in front of more
+pub exact_unless : {A : Type 0} (test : Test) (refusal : TypeRefusal) {m : Checking A} {R : Typing A}
+    → Exact m R → Exact (choose test (refuse refusal) m) (Sequence (Given (IsFalse test)) (λ u. R))
+exact_unless true refusal h = record {
+    found = λ x k l e. absurd (err_no_ok refusal (x, l) e);
+    whole = λ x k l q. absurd (let p : IsFalse true = q.first.0 in cc) }
+exact_unless false refusal {m = m} {R = R} h = record {
+    found = λ x k l e. record { of = tt; between = k; first = (refl, refl); second = h.found x k l e };
+    whole = λ x k l q. h.whole x k l (subst (λ b. R x b l) q.first.1 q.second) }

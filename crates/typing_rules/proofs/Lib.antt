@@ -3,3 +3,5 @@ pub mod RulesAllow
 pub mod PartsExact
 pub mod DeclaratorsExact
 pub mod TermsExact
+pub mod DeclarationsExact
+pub mod StatementsExact
