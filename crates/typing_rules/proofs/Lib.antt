@@ -5,3 +5,4 @@ pub mod DeclaratorsExact
 pub mod TermsExact
 pub mod DeclarationsExact
 pub mod StatementsExact
+pub mod UnitsExact

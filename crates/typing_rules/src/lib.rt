@@ -7,6 +7,8 @@
 //! one, and that is the only one.
 #![tactic(auto)]
 
+mod laws;
 mod refusal;
 
+pub use laws::{one_typing, refused_has_no_typing, typing_is_exact};
 pub use refusal::{Size, TypeRefusal};
