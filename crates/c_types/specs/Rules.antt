@@ -35,9 +35,12 @@ beside true rule r = r
 beside false rule (Ok a) = Err rule
 beside false rule (Err other) = if nat_le other rule then Err other else Err rule
 
--- two operands that no case of a rule allows
+-- two operands that no case of a rule allows: the rule, or rule 14 where one is void
+abbrev pub refused_rule : ℕ → CType → CType → ℕ
+refused_rule rule a b = if is_void a || is_void b then 14 else rule
+
 abbrev pub refused : {A : Type 0} → ℕ → CType → CType → Ruled A
-refused rule a b = if is_void a || is_void b then Err 14 else Err rule
+refused rule a b = Err (refused_rule rule a b)
 
 -- a value that is there, and is no integer
 abbrev pub is_other : CType → Test
@@ -52,10 +55,6 @@ unary_type t = if is_integer t then Ok (promoted (ty_of t)) else refused 1 t t
 -- a condition, or an operand of `! && ||` (C11 6.5.3.3p1, 6.5.13p2, 6.5.14p2, 6.5.15p2, 6.8.4.1p1, 6.8.5p2)
 abbrev pub tested_type : CType → Ruled CType
 tested_type t = if is_scalar t then Ok t else Err 5
-
--- two integers, with the type at which an operator computes on them
-abbrev pub integers : Ty → CType → CType → Ruled Ty
-integers at a b = if is_integer a && is_integer b then Ok at else if is_other a || is_other b then Err 1 else Err 14
 
 -- `* / %` and `& ^ |` (C11 6.5.5p2, 6.5.10p2, 6.5.11p2, 6.5.12p2)
 abbrev pub arithmetic_form : CType → CType → Ruled BinaryForm
@@ -183,11 +182,15 @@ integer_conversion target from =
     else if is_pointer from.type && ty_code (ty_of target) == ty_code Bool then Ok to.PointerToBool
     else refused 8 from.type from.type
 
+-- what a pointer points to has each qualifier of what another one points to
+abbrev pub loses_none : CType → CType → Test
+loses_none from target = has_each (target_of from).qualifiers (target_of target).qualifiers
+
 -- a conversion as by assignment to a pointer (C11 6.5.16.1p1)
 abbrev pub pointer_conversion : CType → Operand → Ruled Conversion
 pointer_conversion target from =
     if from.is_null then Ok to.Null
-    else if point_to_one from.type target && has_each (target_of from.type).qualifiers (target_of target).qualifiers then Ok to.Pointer
+    else if point_to_one from.type target && loses_none from.type target then Ok to.Pointer
     else refused 8 from.type from.type
 
 -- a conversion as by assignment (C11 6.5.16.1p1)
@@ -249,10 +252,11 @@ element_of a b = if is_pointer a then target_of a else target_of b
 abbrev pub callee_type : CType → Ruled CType
 callee_type t = if is_function_pointer t then Ok (target_of t).type else refused 10 t t
 
--- a cast to a type (C11 6.5.4p2), in this subset to an integer type from an integer, or to void from anything
+-- a cast to a type (C11 6.5.4p2), in this subset to an integer type from an integer, or to void from anything; its
+-- type is that to which it casts
 abbrev pub cast_type : CType → CType → Ruled CType
 cast_type target from =
-    if is_void target then Ok void
+    if is_void target then Ok target
     else if is_integer target && is_integer from then Ok target
     else if is_integer target then refused 12 from from
     else Err 12

@@ -110,13 +110,13 @@ is_function (taking p t) = true
 abbrev pub is_scalar : CType → Test
 is_scalar t = is_integer t || is_pointer t
 
--- a complete object type (C11 6.2.5p1, p22)
+-- a complete object type (C11 6.2.5p1, p22); the element of an array is always complete (C11 6.7.6.2p1)
 abbrev pub is_complete : CType → Test
 is_complete void = false
 is_complete (integer ty) = true
 is_complete (pointer q t) = true
 is_complete (array q t None) = false
-is_complete (array q t (Some n)) = is_complete t
+is_complete (array q t (Some n)) = true
 is_complete (returning q t) = false
 is_complete (taking p t) = false
 
