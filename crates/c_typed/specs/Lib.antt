@@ -2,3 +2,4 @@ pub mod Typed
 pub mod Constants
 pub mod Starts
 pub mod Statements
+pub mod Views

@@ -28,17 +28,13 @@ pub data Meaning : Type 0 where
   predeclared : Predeclared → Meaning
   constant : (value : ℕ) → Meaning
 
-pub record Declared : Type 0 where
-  pub name : Bytes
-  pub meaning : Meaning
-
 -- the declarations of a block, the newest first
 abbrev pub Scope : Type 0
-Scope = List Declared
+Scope = List (Bytes × Meaning)
 
 abbrev pub found_in : Bytes → Scope → Option Meaning
 found_in name [] = None
-found_in name (d ∷ rest) = if bytes_eq name d.name then Some d.meaning else found_in name rest
+found_in name (d ∷ rest) = if bytes_eq name d.0 then Some d.1 else found_in name rest
 
 abbrev pub or_else : Option Meaning → Option Meaning → Option Meaning
 or_else None other = other
@@ -56,7 +52,7 @@ innermost (scope ∷ outer) = scope
 -- in the innermost scope a name means this from now on
 abbrev pub with_meaning : Bytes → Meaning → List Scope → List Scope
 with_meaning name m [] = []
-with_meaning name m (scope ∷ outer) = (record { name = name; meaning = m } ∷ scope) ∷ outer
+with_meaning name m (scope ∷ outer) = ((name, m) ∷ scope) ∷ outer
 
 -- ---- what the program has
 
@@ -163,11 +159,11 @@ type_of_predeclared the_exit = function_of (integer Int ∷ []) (unqualified voi
 -- `putchar`, `getchar`, `exit`, `EOF` and `NULL`
 abbrev pub predeclared_scope : Scope
 predeclared_scope =
-    record { name = 112 ∷ 117 ∷ 116 ∷ 99 ∷ 104 ∷ 97 ∷ 114 ∷ []; meaning = predeclared the_putchar } ∷
-    record { name = 103 ∷ 101 ∷ 116 ∷ 99 ∷ 104 ∷ 97 ∷ 114 ∷ []; meaning = predeclared the_getchar } ∷
-    record { name = 101 ∷ 120 ∷ 105 ∷ 116 ∷ []; meaning = predeclared the_exit } ∷
-    record { name = 69 ∷ 79 ∷ 70 ∷ []; meaning = constant 4294967295 } ∷
-    record { name = 78 ∷ 85 ∷ 76 ∷ 76 ∷ []; meaning = constant 0 } ∷
+    (112 ∷ 117 ∷ 116 ∷ 99 ∷ 104 ∷ 97 ∷ 114 ∷ [], predeclared the_putchar) ∷
+    (103 ∷ 101 ∷ 116 ∷ 99 ∷ 104 ∷ 97 ∷ 114 ∷ [], predeclared the_getchar) ∷
+    (101 ∷ 120 ∷ 105 ∷ 116 ∷ [], predeclared the_exit) ∷
+    (69 ∷ 79 ∷ 70 ∷ [], constant 4294967295) ∷
+    (78 ∷ 85 ∷ 76 ∷ 76 ∷ [], constant 0) ∷
     []
 
 abbrev pub all_scopes : Known → List Scope
@@ -245,7 +241,7 @@ external_from n name [] = None
 external_from n name (e ∷ rest) = if bytes_eq name e.name && e.is_external then Some n else external_from (suc n) name rest
 
 abbrev pub with_file_meaning : Bytes → Meaning → Known → Known
-with_file_meaning name m k = record k { file_scope = record { name = name; meaning = m } ∷ k.file_scope }
+with_file_meaning name m k = record k { file_scope = (name, m) ∷ k.file_scope }
 
 abbrev pub with_entities : List Entity → Known → Known
 with_entities entities k = record k { entities = entities }

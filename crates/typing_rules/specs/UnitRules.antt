@@ -3,7 +3,7 @@ use Rattle.std.specs.Prelude.{ℕ, zero, suc, ◌+◌, ◌==◌, Bool as Test, t
 use Rattle.srmt_base.specs.declared.ty.Ty.TheVariants.{Int}
 use Rattle.c_types.specs.Types.{CType, Qualified, integer, function_of, unqualified, is_function, same_type}
 use Rattle.c_typed.specs.Statements as t
-use Rattle.typing_rules.specs.Known.{Known, File, main_file, binary_file, same_file, Definition, undefined, tentative, defined, Entity, First, Local, Use, Scope, Meaning, Declared, local, Text, entity_at, is_placed, main_bytes, with_scopes, with_locals}
+use Rattle.typing_rules.specs.Known.{Known, File, main_file, binary_file, same_file, Definition, undefined, tentative, defined, Entity, First, Local, Use, Scope, Meaning, local, Text, entity_at, is_placed, main_bytes, with_scopes, with_locals}
 use Rattle.typing_rules.specs.DeclaratorRules.{Derivation, to_pointer, to_array, to_function}
 
 -- the parameters of a declarator that declares a function, which are those next to its name
@@ -17,7 +17,7 @@ own_parameters (to_function ps ∷ rest) = Some ps
 
 abbrev pub with_name : Option (List ℕ) → ℕ → Scope → Scope
 with_name None n scope = scope
-with_name (Some bytes) n scope = record { name = bytes; meaning = local n } ∷ scope
+with_name (Some bytes) n scope = (bytes, local n) ∷ scope
 
 -- the scope of a function's parameters, which are its first locals
 abbrev pub scope_of : ℕ → List Local → Scope
