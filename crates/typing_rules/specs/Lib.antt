@@ -2,6 +2,7 @@
 pub mod Source
 pub mod SourceUnits
 pub mod Known
+pub mod SourceViews
 pub mod Limits
 pub mod Checking
 pub mod Holding
