@@ -3,3 +3,4 @@ pub mod Constants
 pub mod Starts
 pub mod Statements
 pub mod Views
+pub mod StatementViews

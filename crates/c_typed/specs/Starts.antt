@@ -5,34 +5,29 @@ use Rattle.srmt_base.specs.Pointer.{is_offset, amount_of}
 use Rattle.c_types.specs.Types.{CType, ty_of, target_of, cells_of}
 use Rattle.c_typed.specs.declared.constant.Constant.{Constant}
 use Rattle.c_typed.specs.declared.constant.Constant.TheVariants.{NoForm, Traps, Value as Known}
+use Rattle.c_typed.specs.declared.program.Start.{Start}
+use Rattle.c_typed.specs.declared.program.Start.TheVariants as start
 use Rattle.c_typed.specs.Typed.{Place, place, local, static, text, pointed, element, Value, value, constant, null, read, first_element, address, function, minus, complement, negation, arithmetic, sum, difference, comparison, conjunction, disjunction, choice, sequence, assignment, update, move, conversion, to_bool, requalified, discarded, call, call_through, putchar, getchar, exit, type_of}
 use Rattle.c_typed.specs.Constants.{constant_of}
-
--- what a cell starts with: a number modulo 2^32, the address of a cell of an object or of a text, or a function
-pub data Start : Type 0 where
-  number : (value : ℕ) → Start
-  object_at : (entity offset : ℕ) → Start
-  text_at : (text offset : ℕ) → Start
-  function_at : (entity : ℕ) → Start
 
 abbrev pub offset_by : ℕ → ℤ → Option ℕ
 offset_by offset amount = if is_offset (pos offset +ℤ amount) then Some (unsigned_abs (pos offset +ℤ amount)) else None
 
 abbrev pub object_if : ℕ → Option ℕ → Option Start
 object_if n None = None
-object_if n (Some offset) = Some (object_at n offset)
+object_if n (Some offset) = Some (start.Object n offset)
 
 abbrev pub text_if : ℕ → Option ℕ → Option Start
 text_if n None = None
-text_if n (Some offset) = Some (text_at n offset)
+text_if n (Some offset) = Some (start.Text n offset)
 
 -- an address of an object moved, where it stays among the offsets that a pointer may have
 abbrev pub moved : Option Start → ℤ → Option Start
 moved None amount = None
-moved (Some (number n)) amount = None
-moved (Some (object_at n offset)) amount = object_if n (offset_by offset amount)
-moved (Some (text_at n offset)) amount = text_if n (offset_by offset amount)
-moved (Some (function_at n)) amount = None
+moved (Some (start.Number n)) amount = None
+moved (Some (start.Object n offset)) amount = object_if n (offset_by offset amount)
+moved (Some (start.Text n offset)) amount = text_if n (offset_by offset amount)
+moved (Some (start.Function n)) amount = None
 
 abbrev pub moved_by : Option Start → Constant → Ty → Test → CType → Option Start
 moved_by start NoForm ty is_less base = None
@@ -42,26 +37,26 @@ moved_by start (Known n) ty is_less base = moved start (amount_of ty n is_less (
 -- an address constant as a `_Bool` (C11 6.3.1.2)
 abbrev pub as_bool : Option Start → Option Start
 as_bool None = None
-as_bool (Some (number n)) = Some (if n == 0 then number 0 else number 1)
-as_bool (Some (object_at n offset)) = Some (number 1)
-as_bool (Some (text_at n offset)) = Some (number 1)
-as_bool (Some (function_at n)) = Some (number 1)
+as_bool (Some (start.Number n)) = Some (if n == 0 then start.Number 0 else start.Number 1)
+as_bool (Some (start.Object n offset)) = Some (start.Number 1)
+as_bool (Some (start.Text n offset)) = Some (start.Number 1)
+as_bool (Some (start.Function n)) = Some (start.Number 1)
 
 abbrev pub number_if : Constant → Option Start
 number_if NoForm = None
 number_if Traps = None
-number_if (Known n) = Some (number n)
+number_if (Known n) = Some (start.Number n)
 
 unfoldable mutual
   -- what an initializer of a static object gives: a number, a null pointer, a function, or an address of a static
   -- object, perhaps of one of its elements
   pub start_of : Value → Option Start
   start_of (value line t (constant n)) = number_if (constant_of (value line t (constant n)))
-  start_of (value line t null) = Some (number 0)
+  start_of (value line t null) = Some (start.Number 0)
   start_of (value line t (read p)) = None
   start_of (value line t (first_element p)) = place_start p
   start_of (value line t (address p)) = place_start p
-  start_of (value line t (function n)) = Some (function_at n)
+  start_of (value line t (function n)) = Some (start.Function n)
   start_of (value line t (minus e)) = number_if (constant_of (value line t (minus e)))
   start_of (value line t (complement e)) = number_if (constant_of (value line t (complement e)))
   start_of (value line t (negation e)) = number_if (constant_of (value line t (negation e)))
@@ -89,8 +84,8 @@ unfoldable mutual
 
   pub place_start : Place → Option Start
   place_start (place line t (local n)) = None
-  place_start (place line t (static n)) = Some (object_at n 0)
-  place_start (place line t (text n)) = Some (text_at n 0)
+  place_start (place line t (static n)) = Some (start.Object n 0)
+  place_start (place line t (text n)) = Some (start.Text n 0)
   place_start (place line t (pointed e)) = start_of e
   place_start (place line t (element at true a b)) = moved_by (start_of a) (constant_of b) (ty_of (type_of b)) false (type_of a)
   place_start (place line t (element at false a b)) = moved_by (start_of b) (constant_of a) (ty_of (type_of a)) false (type_of b)

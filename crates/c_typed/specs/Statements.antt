@@ -1,8 +1,11 @@
 -- The typed tree of statements, declarations, functions and programs (C11 6.7 to 6.9).
-use Rattle.std.specs.Prelude.{ℕ, Bool as Test, List, Option}
+use Rattle.std.specs.Prelude.{ℕ, zero, suc, ◌==◌, Bool as Test, if◌then◌else◌, List, [], ◌∷◌, length, Option, Some, None}
 use Rattle.c_types.specs.Types.{CType, Qualified}
 use Rattle.c_typed.specs.Typed.{Value}
-use Rattle.c_typed.specs.Starts.{Start}
+use Rattle.c_typed.specs.declared.program.StartCell.{StartCell}
+use Rattle.c_typed.specs.declared.program.TextObject.{TextObject}
+use Rattle.c_typed.specs.declared.program.Numbered.{Numbered}
+use Rattle.c_typed.specs.declared.program.Numbered.TheVariants as numbered
 
 -- a cell of an array with the value that it is given
 pub record Cell : Type 0 where
@@ -65,11 +68,6 @@ pub record Function : Type 0 where
   pub body : Items
   pub end : ℕ
 
--- a cell of a static object with what it starts with
-pub record StartCell : Type 0 where
-  pub index : ℕ
-  pub start : Start
-
 -- a static object: its number among the entities, the line of its first declaration's name in its file, its type, and
 -- its given cells; the others start with 0 (C11 6.7.9p10)
 pub record Static : Type 0 where
@@ -78,11 +76,6 @@ pub record Static : Type 0 where
   pub type : Qualified
   pub cells : List StartCell
 
--- a string literal that is an object: the line of its first token, and its bytes without the final 0
-pub record TextObject : Type 0 where
-  pub line : ℕ
-  pub bytes : List ℕ
-
 -- a file: its functions in the order of their definitions, its static objects in the order of their first
 -- declarations, its texts in the order of their appearance
 pub record TypedFile : Type 0 where
@@ -90,9 +83,44 @@ pub record TypedFile : Type 0 where
   pub statics : List Static
   pub texts : List TextObject
 
--- a program: both files, how many entities it has, and which is `main`
+-- the place of an entity among functions, counted from a number
+abbrev pub function_from : ℕ → ℕ → List Function → Option ℕ
+function_from entity n [] = None
+function_from entity n (f ∷ rest) = if entity == f.entity then Some n else function_from entity (suc n) rest
+
+abbrev pub static_from : ℕ → ℕ → List Static → Option ℕ
+static_from entity n [] = None
+static_from entity n (s ∷ rest) = if entity == s.entity then Some n else static_from entity (suc n) rest
+
+abbrev pub or_function : Option ℕ → Numbered → Numbered
+or_function None other = other
+or_function (Some n) other = numbered.Function n
+
+abbrev pub or_object : Option ℕ → Numbered → Numbered
+or_object None other = other
+or_object (Some n) other = numbered.Object n
+
+-- the first object number of the binary part
+abbrev pub first_binary_object : ℕ
+first_binary_object = 134217728
+
+-- what an entity is in the end: functions are numbered from 1, those of the main file first, and objects in each part
+-- in the order of their first declarations
+abbrev pub numbered_in : TypedFile → TypedFile → ℕ → Numbered
+numbered_in main binary entity =
+    or_function (function_from entity 1 main.functions)
+    (or_function (function_from entity (suc (length main.functions)) binary.functions)
+    (or_object (static_from entity 1 main.statics)
+    (or_object (static_from entity first_binary_object binary.statics) numbered.Nowhere)))
+
+-- what each entity is, from one on
+abbrev pub numbers_from : TypedFile → TypedFile → ℕ → ℕ → List Numbered
+numbers_from main binary entity zero = []
+numbers_from main binary entity (suc others) = numbered_in main binary entity ∷ numbers_from main binary (suc entity) others
+
+-- a program: both files, what each entity is, and which is `main`
 pub record Program : Type 0 where
   pub main_file : TypedFile
   pub binary_file : TypedFile
-  pub entities : ℕ
+  pub entities : List Numbered
   pub main : ℕ

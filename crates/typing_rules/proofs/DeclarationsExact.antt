@@ -2,7 +2,8 @@
 use Rattle.std.proofs.Common.{◌≡◌, ℕ, suc, ◌+◌, ◌≤◌, Bool as Test, true, false, not, List, [], ◌∷◌, length, refl, Option, Some, None, inl, inr, ◌⊎◌, ◌↔◌, arith}
 use Rattle.std.specs.Prelude.{IsTrue, IsFalse, IsSome, ◌||◌, nat_le, is_some}
 use Rattle.c_types.specs.Types.{CType, void, integer, pointer, array, returning, taking, Qualified, is_void, is_function, is_complete, cells_of, same_type}
-use Rattle.c_typed.specs.Starts.{Start, start_of}
+use Rattle.c_typed.specs.declared.program.Start.{Start}
+use Rattle.c_typed.specs.Starts.{start_of}
 use Rattle.typing_rules.specs.declared.refusal.TypeRefusal.TheVariants.{Twice, Mismatch, TooLarge}
 use Rattle.typing_rules.specs.declared.refusal.Size.TheVariants.{Cells}
 use Rattle.typing_rules.specs.Source.{Named, Expr, line_of}

@@ -5,8 +5,11 @@ use Rattle.srmt_base.specs.declared.ty.Ty.TheVariants.{Bool, Char, SChar, UChar,
 use Rattle.srmt_base.specs.Convert.{convert_of}
 use Rattle.c_types.specs.Types.{CType, void, integer, pointer, array, returning, taking, Qualified, same_test, is_array, is_function, is_complete, composite, may_be_one}
 use Rattle.c_typed.specs.Typed.{Value}
-use Rattle.c_typed.specs.Starts.{start_of, Start}
-use Rattle.c_typed.specs.Statements.{Cell, Initializer, scalar, cells, StartCell}
+use Rattle.c_typed.specs.declared.program.Start.{Start}
+use Rattle.c_typed.specs.declared.program.Start.TheVariants as start
+use Rattle.c_typed.specs.declared.program.StartCell.{StartCell}
+use Rattle.c_typed.specs.Starts.{start_of}
+use Rattle.c_typed.specs.Statements.{Cell, Initializer, scalar, cells}
 use Rattle.typing_rules.specs.Source.{Bytes, Expr, at, name, number, character, text, parenthesized, index, call, prefix, postfix, sizeof_expr, sizeof_type, cast, binary, conjunction, disjunction, choice, assignment, compound, comma}
 use Rattle.typing_rules.specs.SourceUnits.{Initial, single, braced, Initials, no_initials, first_initial}
 use Rattle.typing_rules.specs.Known.{Known, File, same_file, Definition, undefined, tentative, defined, Entity, entity_at, Linked, external_from, with_entities, with_entity_at}
@@ -195,7 +198,7 @@ abbrev pub initializer_of : CType → List Cell → Option Initializer
 initializer_of type given = if is_array type then Some (cells given) else scalar_of given
 
 abbrev pub or_zero : Option Start → Start
-or_zero None = Start.number 0
+or_zero None = start.Number 0
 or_zero (Some s) = s
 
 -- what the given cells of a static object start with

@@ -2,7 +2,8 @@
 use Rattle.std.specs.Prelude.{ℕ, zero, suc, ◌+◌, ◌==◌, Bool as Test, true, false, ◌&&◌, ◌||◌, if◌then◌else◌, List, [], ◌∷◌, ◌++◌, length, Option, Some, None, slice_get, slice_set, bytes_eq}
 use Rattle.srmt_base.specs.declared.ty.Ty.TheVariants.{Int}
 use Rattle.c_types.specs.Types.{CType, void, integer, Qualified, unqualified, plain, function_of, is_array, same_type}
-use Rattle.c_typed.specs.Statements.{StartCell}
+use Rattle.c_typed.specs.declared.program.StartCell.{StartCell}
+use Rattle.c_typed.specs.declared.program.TextObject.{TextObject}
 use Rattle.typing_rules.specs.Source.{Bytes}
 
 -- the main file or the binary file
@@ -90,11 +91,6 @@ pub record First : Type 0 where
   pub entity : ℕ
   pub line : ℕ
 
--- a string literal that is an object, with the line of its first token
-pub record Text : Type 0 where
-  pub line : ℕ
-  pub bytes : Bytes
-
 -- an occurrence of an entity's name in an expression
 pub record Use : Type 0 where
   pub entity : ℕ
@@ -112,7 +108,7 @@ pub record Known : Type 0 where
   -- of the function
   pub locals : List Local
   -- of this file
-  pub texts : List Text
+  pub texts : List TextObject
   pub static_cells : ℕ
   pub functions : ℕ
   -- of functions that are defined or called through a pointer, each once

@@ -157,7 +157,7 @@ program_of main binary = do
   n ← given begin NoMain
   asks (λ k. unresolved k.entities k.uses) >>= resolves
   all ← asks (λ k. length k.entities)
-  pure (record { main_file = first; binary_file = second; entities = all; main = n })
+  pure (record { main_file = first; binary_file = second; entities = t.numbers_from first second 0 all; main = n })
 
 abbrev pub program_alone : Result (t.Program × Known) TypeRefusal → Result t.Program TypeRefusal
 program_alone (Ok p) = Ok p.0

@@ -1,7 +1,8 @@
 -- The typing relation on declarations and initializers (C11 6.2.2, 6.7, 6.7.9).
 use Rattle.std.specs.Prelude.{◌≡◌, ℕ, suc, ◌+◌, ◌≤◌, ◌⊎◌, Bool as Test, true, false, not, ◌||◌, List, [], ◌∷◌, ◌++◌, length, Option, Some, None, IsTrue, IsFalse, IsSome}
 use Rattle.c_types.specs.Types.{CType, void, integer, pointer, array, returning, taking, Qualified, is_void, is_function, is_complete, ty_of, cells_of, same_type}
-use Rattle.c_typed.specs.Starts.{Start, start_of}
+use Rattle.c_typed.specs.declared.program.Start.{Start}
+use Rattle.c_typed.specs.Starts.{start_of}
 use Rattle.c_typed.specs.Statements.{Cell, Initializer, LocalItem}
 use Rattle.typing_rules.specs.Source.{Named, Expr, line_of}
 use Rattle.typing_rules.specs.SourceUnits.{Initial, single, braced, Initials, no_initials, first_initial, Item, Declaration}

@@ -142,7 +142,7 @@ IsProgram main binary = do
   n ← Such (λ n. begin ≡ Some n)
   Holds (λ k. unresolved k.entities k.uses ≡ None)
   all ← Asks (λ k. length k.entities)
-  Is (record { main_file = first; binary_file = second; entities = all; main = n })
+  Is (record { main_file = first; binary_file = second; entities = t.numbers_from first second 0 all; main = n })
 
 -- These trees of one or two files are typed as this program.
 unfoldable pub Types : SourceUnit → Option SourceUnit → t.Program → Type 0

@@ -3,7 +3,7 @@ use Rattle.std.specs.Prelude.{ℕ, zero, suc, ◌+◌, ◌==◌, Bool as Test, t
 use Rattle.srmt_base.specs.declared.ty.Ty.TheVariants.{Int}
 use Rattle.c_types.specs.Types.{CType, Qualified, integer, function_of, unqualified, is_function, same_type}
 use Rattle.c_typed.specs.Statements as t
-use Rattle.typing_rules.specs.Known.{Known, File, main_file, binary_file, same_file, Definition, undefined, tentative, defined, Entity, First, Local, Use, Scope, Meaning, local, Text, entity_at, is_placed, main_bytes, with_scopes, with_locals}
+use Rattle.typing_rules.specs.Known.{Known, File, main_file, binary_file, same_file, Definition, undefined, tentative, defined, Entity, First, Local, Use, Scope, Meaning, local, entity_at, is_placed, main_bytes, with_scopes, with_locals}
 use Rattle.typing_rules.specs.DeclaratorRules.{Derivation, to_pointer, to_array, to_function}
 
 -- the parameters of a declarator that declares a function, which are those next to its name
@@ -55,12 +55,9 @@ statics_of file entities (f ∷ rest) =
     then static_of f (entity_at entities f.entity) ∷ statics_of file entities rest
     else statics_of file entities rest
 
-abbrev pub text_object : Text → t.TextObject
-text_object x = record { line = x.line; bytes = x.bytes }
-
 abbrev pub typed_file : List t.Function → Known → t.TypedFile
 typed_file functions k =
-    record { functions = functions; statics = statics_of k.file k.entities k.declared; texts = map text_object k.texts }
+    record { functions = functions; statics = statics_of k.file k.entities k.declared; texts = k.texts }
 
 abbrev pub no_file : t.TypedFile
 no_file = record { functions = []; statics = []; texts = [] }
