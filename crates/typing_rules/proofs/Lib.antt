@@ -6,3 +6,4 @@ pub mod TermsExact
 pub mod DeclarationsExact
 pub mod StatementsExact
 pub mod UnitsExact
+mod Worked
