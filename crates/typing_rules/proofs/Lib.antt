@@ -7,3 +7,4 @@ pub mod DeclarationsExact
 pub mod StatementsExact
 pub mod UnitsExact
 mod Worked
+pub mod SourceViewLaws

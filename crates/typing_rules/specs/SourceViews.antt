@@ -13,6 +13,9 @@ use Rattle.c_tree.specs.declared.specifier.Pointer.{Pointer}
 use Rattle.c_tree.specs.declared.expression.Direct.{Direct-F}
 use Rattle.c_tree.specs.declared.expression.ExprNode.{ExprNode-F}
 use Rattle.c_tree.specs.declared.expression.Suffix.{Suffix-F}
+use Rattle.c_tree.specs.declared.expression.Direct as tree_direct
+use Rattle.c_tree.specs.declared.expression.ExprNode as tree_node
+use Rattle.c_tree.specs.declared.expression.Suffix as tree_suffix
 use Rattle.c_tree.specs.declared.expression.Declarator as tree_declarator
 use Rattle.c_tree.specs.declared.expression.Expr as tree_expr
 use Rattle.c_tree.specs.declared.expression.Parameter as tree_parameter
@@ -177,6 +180,26 @@ module _ (shift : ℕ → ℕ) where
   unfoldable pub expr_view : tree_expr.Expr → Expr
   expr_view =
       tree_expr.fold-Expr DirectView Node (Parts → Parts) DeclaratorView Expr ParameterView TypeName direct_from node_from suffix_from declarator_from expr_from parameter_from type_name_from
+
+  unfoldable pub node_view : tree_node.ExprNode → Node
+  node_view =
+      tree_node.fold-ExprNode DirectView Node (Parts → Parts) DeclaratorView Expr ParameterView TypeName direct_from node_from suffix_from declarator_from expr_from parameter_from type_name_from
+
+  unfoldable pub type_name_view : tree_type_name.TypeName → TypeName
+  type_name_view =
+      tree_type_name.fold-TypeName DirectView Node (Parts → Parts) DeclaratorView Expr ParameterView TypeName direct_from node_from suffix_from declarator_from expr_from parameter_from type_name_from
+
+  unfoldable pub direct_view : tree_direct.Direct → DirectView
+  direct_view =
+      tree_direct.fold-Direct DirectView Node (Parts → Parts) DeclaratorView Expr ParameterView TypeName direct_from node_from suffix_from declarator_from expr_from parameter_from type_name_from
+
+  unfoldable pub suffix_view : tree_suffix.Suffix → Parts → Parts
+  suffix_view =
+      tree_suffix.fold-Suffix DirectView Node (Parts → Parts) DeclaratorView Expr ParameterView TypeName direct_from node_from suffix_from declarator_from expr_from parameter_from type_name_from
+
+  unfoldable pub parameter_view : tree_parameter.Parameter → ParameterView
+  parameter_view =
+      tree_parameter.fold-Parameter DirectView Node (Parts → Parts) DeclaratorView Expr ParameterView TypeName direct_from node_from suffix_from declarator_from expr_from parameter_from type_name_from
 
   unfoldable pub declarator_view : tree_declarator.Declarator → DeclaratorView
   declarator_view =
