@@ -8,6 +8,10 @@ use Rattle.c_tree.specs.declared.operator.PrefixOp.{PrefixOp}
 use Rattle.c_tree.specs.declared.operator.PostfixOp.{PostfixOp}
 use Rattle.c_tree.specs.declared.expression.Direct as tree_direct
 use Rattle.c_tree.specs.declared.expression.Direct.{Direct-F}
+use Rattle.c_tree.specs.declared.expression.Direct.TheVariants as d
+use Rattle.c_tree.specs.declared.name.Name as tree_name
+use Rattle.c_tree.specs.declared.specifier.Specifier.{Specifier}
+use Rattle.c_tree.specs.declared.specifier.Pointer.{Pointer}
 use Rattle.c_tree.specs.declared.expression.ExprNode as tree_node
 use Rattle.c_tree.specs.declared.expression.ExprNode.{ExprNode-F}
 use Rattle.c_tree.specs.declared.expression.ExprNode.TheVariants as e
@@ -19,7 +23,8 @@ use Rattle.c_tree.specs.declared.expression.Expr as tree_expr
 use Rattle.c_tree.specs.declared.expression.Parameter as tree_parameter
 use Rattle.c_tree.specs.declared.expression.TypeName as tree_type_name
 use Rattle.typing_rules.specs.Source.{Bytes, Expr, at, Node, name, number, character, text, parenthesized, index, call, prefix, postfix, sizeof_expr, sizeof_type, cast, choice, comma, TypeName, Parts, unsized_part, array_part, function_part}
-use Rattle.typing_rules.specs.SourceViews.{DirectView, DeclaratorView, ParameterView, exprs_from, parameters_from, binary_from, assignment_from, direct_from, node_from, suffix_from, declarator_from, expr_from, parameter_from, type_name_from, expr_view, node_view, type_name_view, suffix_view, parameter_view, declarator_view}
+use Rattle.typing_rules.specs.Source.{type_name}
+use Rattle.typing_rules.specs.SourceViews.{direct_view, named_view, specifiers_view, declarator_or, all_parts, pointers_from, DirectView, DeclaratorView, ParameterView, exprs_from, parameters_from, binary_from, assignment_from, direct_from, node_from, suffix_from, declarator_from, expr_from, parameter_from, type_name_from, expr_view, node_view, type_name_view, suffix_view, parameter_view, declarator_view}
 
 module _ (shift : ℕ → ℕ) where
 
@@ -102,3 +107,51 @@ module _ (shift : ℕ → ℕ) where
   unfolding node_view expr_view type_name_view
   view_comma xs y =
       ap (node_view shift) (sym (e.rolls-Comma xs y)) ∙ tree_node.fold-roll-ExprNode DirectView Node (Parts → Parts) DeclaratorView Expr ParameterView TypeName (direct_from shift) (node_from shift) (suffix_from shift) (declarator_from shift) (expr_from shift) (parameter_from shift) (type_name_from shift) (ExprNode-F.Comma xs y)
+
+  pub view_expr : (x : tree_expr.Expr) → expr_view shift x ≡ at (shift x.line) (node_view shift x.node)
+  unfolding expr_view node_view
+  view_expr x =
+      ap (expr_view shift) (sym (tree_expr.rolls-Expr' (record { line = x.line; node = x.node }))) ∙ tree_expr.fold-roll-Expr DirectView Node (Parts → Parts) DeclaratorView Expr ParameterView TypeName (direct_from shift) (node_from shift) (suffix_from shift) (declarator_from shift) (expr_from shift) (parameter_from shift) (type_name_from shift) (record { line = x.line; node = x.node })
+
+  pub view_type_name : (line : ℕ) (words : List Specifier) (declarator : Option tree_declarator.Declarator)
+      → type_name_view shift (tree_type_name.roll-TypeName (record { line = line; specifiers = words; declarator = declarator })) ≡ type_name (specifiers_view shift line words) (declarator_or (shift line) (option_map (declarator_view shift) declarator))
+  unfolding type_name_view declarator_view
+  view_type_name line words None = tree_type_name.fold-roll-TypeName DirectView Node (Parts → Parts) DeclaratorView Expr ParameterView TypeName (direct_from shift) (node_from shift) (suffix_from shift) (declarator_from shift) (expr_from shift) (parameter_from shift) (type_name_from shift) (record { line = line; specifiers = words; declarator = None })
+  view_type_name line words (Some x) = tree_type_name.fold-roll-TypeName DirectView Node (Parts → Parts) DeclaratorView Expr ParameterView TypeName (direct_from shift) (node_from shift) (suffix_from shift) (declarator_from shift) (expr_from shift) (parameter_from shift) (type_name_from shift) (record { line = line; specifiers = words; declarator = Some x })
+
+  pub view_parameter : (line : ℕ) (words : List Specifier) (declarator : Option tree_declarator.Declarator)
+      → parameter_view shift (tree_parameter.roll-Parameter (record { line = line; specifiers = words; declarator = declarator })) ≡ record { specifiers = specifiers_view shift line words; declarator = declarator_or (shift line) (option_map (declarator_view shift) declarator) }
+  unfolding parameter_view declarator_view
+  view_parameter line words None = tree_parameter.fold-roll-Parameter DirectView Node (Parts → Parts) DeclaratorView Expr ParameterView TypeName (direct_from shift) (node_from shift) (suffix_from shift) (declarator_from shift) (expr_from shift) (parameter_from shift) (type_name_from shift) (record { line = line; specifiers = words; declarator = None })
+  view_parameter line words (Some x) = tree_parameter.fold-roll-Parameter DirectView Node (Parts → Parts) DeclaratorView Expr ParameterView TypeName (direct_from shift) (node_from shift) (suffix_from shift) (declarator_from shift) (expr_from shift) (parameter_from shift) (type_name_from shift) (record { line = line; specifiers = words; declarator = Some x })
+
+  pub view_declarator : (x : tree_declarator.Declarator)
+      → declarator_view shift x ≡ record { line = shift x.line; name = (direct_view shift x.direct).name; parts = λ rest. (direct_view shift x.direct).parts (all_parts (map (suffix_view shift) x.suffixes) (pointers_from x.pointers rest)) }
+  unfolding declarator_view direct_view suffix_view
+  view_declarator x =
+      ap (declarator_view shift) (sym (tree_declarator.rolls-Declarator' (record { line = x.line; pointers = x.pointers; direct = x.direct; suffixes = x.suffixes }))) ∙ tree_declarator.fold-roll-Declarator DirectView Node (Parts → Parts) DeclaratorView Expr ParameterView TypeName (direct_from shift) (node_from shift) (suffix_from shift) (declarator_from shift) (expr_from shift) (parameter_from shift) (type_name_from shift) (record { line = x.line; pointers = x.pointers; direct = x.direct; suffixes = x.suffixes })
+
+  pub view_direct_name : (n : tree_name.Name) → direct_view shift (d.Name n) ≡ record { name = Some (named_view shift n); parts = λ rest. rest }
+  unfolding direct_view
+  view_direct_name n = ap (direct_view shift) (sym (d.rolls-Name n)) ∙ tree_direct.fold-roll-Direct DirectView Node (Parts → Parts) DeclaratorView Expr ParameterView TypeName (direct_from shift) (node_from shift) (suffix_from shift) (declarator_from shift) (expr_from shift) (parameter_from shift) (type_name_from shift) (Direct-F.Direct::Name n)
+
+  pub view_direct_nested : (x : tree_declarator.Declarator) → direct_view shift (d.Nested x) ≡ record { name = (declarator_view shift x).name; parts = (declarator_view shift x).parts }
+  unfolding direct_view declarator_view
+  view_direct_nested x = ap (direct_view shift) (sym (d.rolls-Nested x)) ∙ tree_direct.fold-roll-Direct DirectView Node (Parts → Parts) DeclaratorView Expr ParameterView TypeName (direct_from shift) (node_from shift) (suffix_from shift) (declarator_from shift) (expr_from shift) (parameter_from shift) (type_name_from shift) (Direct-F.Nested x)
+
+  pub view_direct_unnamed : direct_view shift d.Unnamed ≡ record { name = None; parts = λ rest. rest }
+  unfolding direct_view
+  view_direct_unnamed = ap (direct_view shift) (sym d.rolls-Unnamed) ∙ tree_direct.fold-roll-Direct DirectView Node (Parts → Parts) DeclaratorView Expr ParameterView TypeName (direct_from shift) (node_from shift) (suffix_from shift) (declarator_from shift) (expr_from shift) (parameter_from shift) (type_name_from shift) Direct-F.Unnamed
+
+  pub view_unsized : (line : ℕ) (rest : Parts) → suffix_view shift (s.Array line None) rest ≡ unsized_part (shift line) rest
+  unfolding suffix_view
+  view_unsized line rest = ap (λ x. suffix_view shift x rest) (sym (s.rolls-Array line None)) ∙ ap (λ f. f rest) (tree_suffix.fold-roll-Suffix DirectView Node (Parts → Parts) DeclaratorView Expr ParameterView TypeName (direct_from shift) (node_from shift) (suffix_from shift) (declarator_from shift) (expr_from shift) (parameter_from shift) (type_name_from shift) (Suffix-F.Array line None))
+
+  pub view_sized : (line : ℕ) (x : tree_expr.Expr) (rest : Parts) → suffix_view shift (s.Array line (Some x)) rest ≡ array_part (shift line) (expr_view shift x) rest
+  unfolding suffix_view expr_view
+  view_sized line x rest = ap (λ y. suffix_view shift y rest) (sym (s.rolls-Array line (Some x))) ∙ ap (λ f. f rest) (tree_suffix.fold-roll-Suffix DirectView Node (Parts → Parts) DeclaratorView Expr ParameterView TypeName (direct_from shift) (node_from shift) (suffix_from shift) (declarator_from shift) (expr_from shift) (parameter_from shift) (type_name_from shift) (Suffix-F.Array line (Some x)))
+
+  pub view_function : (line : ℕ) (ps : List tree_parameter.Parameter) (rest : Parts)
+      → suffix_view shift (s.Function line ps) rest ≡ function_part (shift line) (parameters_from (map (parameter_view shift) ps)) rest
+  unfolding suffix_view parameter_view
+  view_function line ps rest = ap (λ y. suffix_view shift y rest) (sym (s.rolls-Function line ps)) ∙ ap (λ f. f rest) (tree_suffix.fold-roll-Suffix DirectView Node (Parts → Parts) DeclaratorView Expr ParameterView TypeName (direct_from shift) (node_from shift) (suffix_from shift) (declarator_from shift) (expr_from shift) (parameter_from shift) (type_name_from shift) (Suffix-F.Function line ps))
