@@ -1,9 +1,9 @@
 use crate::expression::{Declarator, Expr};
 use crate::specifier::Specifier;
-use sqlite_items::Items;
+use sqlite_items::{Boxed, Items};
 
 /// A declaration (C11 6.7).
-#[derive(Debug, Drop)]
+#[derive(Drop)]
 pub struct Declaration {
     /// The line of its first specifier.
     pub line: u32,
@@ -14,16 +14,16 @@ pub struct Declaration {
 }
 
 /// What a declaration declares, with its initializer (C11 6.7).
-#[derive(Debug, Drop)]
+#[derive(Drop)]
 pub struct Item {
     pub declarator: Declarator,
     pub initializer: Option<Initializer>,
 }
 
 /// An initializer (C11 6.7.9).
-#[derive(Debug, Drop)]
+#[derive(Drop)]
 pub enum Initializer {
-    Value(Expr),
+    Value(Boxed<Expr>),
     /// The line of the `{`, and at least one initializer.
     List(u32, Items<Initializer>),
 }

@@ -1,12 +1,12 @@
 use crate::name::Name;
-use crate::operator::{BinaryOp, PostfixOp, PrefixOp};
+use crate::operator::{BinaryOp, CompoundOp, PostfixOp, PrefixOp};
 use crate::specifier::{Pointer, Specifier};
 use sqlite_items::{Boxed, Items};
-use srmt_base::{Op, Ty};
+use srmt_base::Ty;
 
 /// An expression (C11 6.5).
 #[cycle(expression)]
-#[derive(Debug, Drop)]
+#[derive(Drop)]
 pub struct Expr {
     /// The line of its first token.
     pub line: u32,
@@ -15,14 +15,14 @@ pub struct Expr {
 
 /// What an expression is.
 #[cycle(expression)]
-#[derive(Debug, Drop)]
+#[derive(Drop)]
 pub enum ExprNode {
     /// The bytes of an identifier.
     Name(Items<u8>),
-    /// An integer constant: `Int` or `UInt`, and the value, below 2^32.
-    Number(Ty, u64),
-    /// A character constant: the value modulo 2^32.
-    Character(u64),
+    /// An integer constant: `Int` or `UInt`, and the value.
+    Number(Ty, u32),
+    /// A character constant, of type `Int`: the value modulo 2^32.
+    Character(u32),
     /// Adjacent string literals: the bytes of all, with the escapes read.
     Text(Items<u8>),
     /// An expression in parentheses.
@@ -30,7 +30,7 @@ pub enum ExprNode {
     /// The array, the line of the `[`, and the index (C11 6.5.2.1).
     Index(Boxed<Expr>, u32, Boxed<Expr>),
     /// What is called, the line of the `(`, and the arguments (C11 6.5.2.2).
-    Call(Boxed<Expr>, u32, Items<Expr>),
+    Call(Boxed<Expr>, u32, Items<Boxed<Expr>>),
     /// The operand, the operator and its line.
     Postfix(Boxed<Expr>, PostfixOp, u32),
     /// The operator, whose line is that of the node, and the operand.
@@ -47,14 +47,14 @@ pub enum ExprNode {
     Conditional(Boxed<Expr>, u32, Boxed<Expr>, Boxed<Expr>),
     /// The left side, the operator of a compound assignment, the operator's line, and the right side
     /// (C11 6.5.16).
-    Assign(Boxed<Expr>, Option<Op>, u32, Boxed<Expr>),
-    /// The left operand and the right operand (C11 6.5.17).
-    Comma(Boxed<Expr>, Boxed<Expr>),
+    Assign(Boxed<Expr>, Option<CompoundOp>, u32, Boxed<Expr>),
+    /// The operands whose values are dropped, at least one, from the left, and the last operand (C11 6.5.17).
+    Comma(Items<Boxed<Expr>>, Boxed<Expr>),
 }
 
 /// The name of a type (C11 6.7.7).
 #[cycle(expression)]
-#[derive(Debug, Drop)]
+#[derive(Drop)]
 pub struct TypeName {
     /// The line of its first specifier.
     pub line: u32,
@@ -66,7 +66,7 @@ pub struct TypeName {
 
 /// A declarator (C11 6.7.6), or an abstract declarator (C11 6.7.7), which names nothing.
 #[cycle(expression)]
-#[derive(Debug, Drop)]
+#[derive(Drop)]
 pub struct Declarator {
     /// The line of its first token.
     pub line: u32,
@@ -79,7 +79,7 @@ pub struct Declarator {
 
 /// What stands in the middle of a declarator.
 #[cycle(expression)]
-#[derive(Debug, Drop)]
+#[derive(Drop)]
 pub enum Direct {
     /// The declared name.
     Name(Name),
@@ -91,7 +91,7 @@ pub enum Direct {
 
 /// What stands behind a declarator (C11 6.7.6.2, 6.7.6.3).
 #[cycle(expression)]
-#[derive(Debug, Drop)]
+#[derive(Drop)]
 pub enum Suffix {
     /// The line of the `[`, and the length.
     Array(u32, Option<Boxed<Expr>>),
@@ -101,7 +101,7 @@ pub enum Suffix {
 
 /// A declaration of a parameter (C11 6.7.6).
 #[cycle(expression)]
-#[derive(Debug, Drop)]
+#[derive(Drop)]
 pub struct Parameter {
     /// The line of its first specifier.
     pub line: u32,

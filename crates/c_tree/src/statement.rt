@@ -4,7 +4,7 @@ use sqlite_items::{Boxed, Items};
 
 /// A statement (C11 6.8).
 #[cycle(statement)]
-#[derive(Debug, Drop)]
+#[derive(Drop)]
 pub struct Stmt {
     /// The line of its first token: for one that begins with a word the line of this word.
     pub line: u32,
@@ -13,7 +13,7 @@ pub struct Stmt {
 
 /// What a statement is.
 #[cycle(statement)]
-#[derive(Debug, Drop)]
+#[derive(Drop)]
 pub enum StmtNode {
     Block(Boxed<Block>),
     /// A `;` alone (C11 6.8.3).
@@ -25,23 +25,34 @@ pub enum StmtNode {
     While(Expr, Boxed<Stmt>),
     /// The body and the condition (C11 6.8.5.2).
     Do(Boxed<Stmt>, Expr),
-    /// What is done first, the condition, the step, and the body (C11 6.8.5.3).
-    For(ForStart, Option<Expr>, Option<Expr>, Boxed<Stmt>),
+    /// What stands in the parentheses, and the body (C11 6.8.5.3).
+    For(ForHead, Boxed<Stmt>),
     Continue,
     Break,
     Return(Option<Expr>),
 }
 
+/// What stands in the parentheses of a `for` statement (C11 6.8.5.3).
+#[derive(Drop)]
+pub struct ForHead {
+    /// What is done first.
+    pub start: ForStart,
+    /// What is tested before each turn, if anything is.
+    pub condition: Option<Boxed<Expr>>,
+    /// What is done after each turn, if anything is.
+    pub step: Option<Boxed<Expr>>,
+}
+
 /// What a `for` statement does first.
-#[derive(Debug, Drop)]
+#[derive(Drop)]
 pub enum ForStart {
-    Declaration(Declaration),
-    Expr(Option<Expr>),
+    Declaration(Boxed<Declaration>),
+    Expr(Option<Boxed<Expr>>),
 }
 
 /// A compound statement (C11 6.8.2).
 #[cycle(statement)]
-#[derive(Debug, Drop)]
+#[derive(Drop)]
 pub struct Block {
     /// The line of the `{`.
     pub line: u32,
@@ -52,7 +63,7 @@ pub struct Block {
 
 /// A part of a compound statement.
 #[cycle(statement)]
-#[derive(Debug, Drop)]
+#[derive(Drop)]
 pub enum BlockItem {
     Declaration(Declaration),
     Statement(Stmt),
