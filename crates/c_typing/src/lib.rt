@@ -2,3 +2,8 @@
 #![tactic(auto)]
 
 mod constants;
+mod convert;
+mod typed;
+
+pub use convert::converted;
+pub use typed::{Typed, Written};
