@@ -1,0 +1,5 @@
+pub mod Meanings
+pub mod Pushed
+pub mod Named
+pub mod Declares
+pub mod Depths

@@ -1,0 +1,3 @@
+pub mod Scopes
+pub mod Log
+pub mod Depths

@@ -1,0 +1,6 @@
+pub mod Rows
+pub mod Grown
+pub mod Added
+pub mod Sizes
+pub mod Denotes
+pub mod Same

@@ -1,0 +1,48 @@
+-- What nodes of the typed tree mean, from what their parts mean.
+use Rattle.std.proofs.Common.{◌≡◌, ◌≢◌, ℕ, ◌==◌, Bool as Test, true, false, if◌then◌else◌, List, refl, sym, ◌∙◌, ap, subst}
+use Rattle.std.proofs.lemmas.Bool.{eqb-true}
+use Rattle.srmt_base.specs.declared.ty.Ty.{Ty}
+use Rattle.srmt_base.specs.Convert.{convert_of}
+use Rattle.c_types.specs.declared.type_ref.Row.{Row}
+use Rattle.c_types.specs.declared.type_ref.TypeRef.TheVariants as ref
+use Rattle.c_types.specs.Types.{CType, integer, ty_of}
+use Rattle.c_types.specs.Table.{type_at, Extends}
+use Rattle.c_types.proofs.Grown.{Extends-refl}
+use Rattle.c_typed.specs.declared.constant.Constant.{Constant}
+use Rattle.c_typed.specs.declared.constant.Constant.TheVariants.{Value as Known}
+use Rattle.c_typed.specs.declared.value.Value as v
+use Rattle.c_typed.specs.declared.value.ValueNode.TheVariants as vn
+use Rattle.c_typed.specs.Typed.{Value, value, conversion, type_of}
+use Rattle.c_typed.specs.Constants.{constant_of, mapped}
+use Rattle.c_typed.specs.Views.{value_view, value_node_view}
+use Rattle.c_typed.proofs.ViewLaws.{view_value, view_conversion}
+use Rattle.typing_rules.specs.Terms as terms
+use Rattle.c_typing.specs.Stand.{MeansValue, converted_value}
+
+-- the type of a value
+pub type-of-means : (rows : List Row) (x : v.Value) (t : Value) → MeansValue rows x t → type_at rows x.ty ≡ type_of t
+type-of-means rows x t m = ap type_of (sym (view_value (type_at rows) x) ∙ m.always rows (Extends-refl rows))
+
+-- a conversion of an operand
+pub conversion-means : (rows : List Row) (x y : v.Value) (t : terms.Written) (first : ℕ) (to : Ty)
+    → x.line ≡ first → x.ty ≡ ref.Integer to → x.node ≡ vn.Conversion first y → first ≡ t.first → MeansValue rows y t.value → MeansValue rows x (converted_value to t)
+conversion-means rows x y t first to line ty node at m = record {
+  always = λ later more.
+    view_value (type_at later) x
+      ∙ (λ i. value (line i) (type_at later (ty i)) (value_node_view (type_at later) (node i)))
+      ∙ ap (value first (integer to)) (view_conversion (type_at later) first y)
+      ∙ (λ i. value (at i) (integer to) (conversion (at i) (m.always later more i)))
+}
+
+pub conversion-constant : (from to : Ty) (c d : Constant) (t : terms.Written) → c ≡ mapped (λ n. Known (convert_of from to n)) d → from ≡ ty_of (terms.written_type t) → d ≡ constant_of t.value
+    → c ≡ constant_of (converted_value to t)
+unfolding constant_of
+conversion-constant from to c d t is same at = is ∙ (λ i. mapped (λ n. Known (convert_of (same i) to n)) (at i))
+
+-- a test of two numbers
+pub test-false : (m n : ℕ) → m ≢ n → (m == n) ≡ false
+test-false m n e = by (m == n) refl
+  where
+    by : (b : Test) → (m == n) ≡ b → (m == n) ≡ false
+    by true h = absurd (e (eqb-true m n h))
+    by false h = h

@@ -1,0 +1,26 @@
+-- Read in this order: Source, Known, Ordered.
+pub mod Source
+pub mod SourceUnits
+pub mod Known
+pub mod SourceViews
+pub mod Limits
+pub mod Checking
+pub mod Holding
+pub mod Terms
+pub mod SpecifierRules
+pub mod DeclaratorRules
+pub mod DeclarationRules
+pub mod OrderedParts
+pub mod Ordered
+pub mod Exact
+pub mod Constraints
+pub mod TypingParts
+pub mod Declarators
+pub mod Typing
+pub mod OrderedDeclarations
+pub mod OrderedStatements
+pub mod UnitRules
+pub mod OrderedUnits
+pub mod TypingDeclarations
+pub mod TypingStatements
+pub mod TypingUnits

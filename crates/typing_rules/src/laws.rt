@@ -1,0 +1,23 @@
+//! Laws of typing: each function does nothing, and its contract is proved.
+
+ghost use Rattle.std.specs.Prelude.{◌≡◌, Ok, Err, Option, ◌↔◌};
+ghost use Rattle.c_typed.specs.Statements.{Program};
+ghost use Rattle.typing_rules.specs.SourceUnits.{Unit as SourceUnit};
+ghost use Rattle.typing_rules.specs.OrderedUnits.{checked};
+ghost use Rattle.typing_rules.specs.TypingUnits.{Types};
+ghost use Rattle.typing_rules.specs.declared.refusal.TypeRefusal.{TypeRefusal as Refusal};
+
+/// The ordered function answers a program exactly where the relation has it.
+pub fn typing_is_exact()
+    ensures { (main : SourceUnit) (binary : Option SourceUnit) (program : Program) → (checked main binary ≡ Ok program) ↔ Types main binary program }
+{}
+
+/// The trees of one or two files have at most one typing.
+pub fn one_typing()
+    ensures { (main : SourceUnit) (binary : Option SourceUnit) (a b : Program) → Types main binary a → Types main binary b → a ≡ b }
+{}
+
+/// What the ordered function refuses has no typing.
+pub fn refused_has_no_typing()
+    ensures { (main : SourceUnit) (binary : Option SourceUnit) (refusal : Refusal) (program : Program) → checked main binary ≡ Err refusal → Types main binary program → ⊥ }
+{}
