@@ -1,9 +1,8 @@
 -- A side that fits stands at an instruction that fits, and fits after it.
-use Rattle.std.proofs.Common.{◌≡◌, ℕ, ◌+◌, ◌-◌, ◌<◌, ◌≤◌, ◌^◌, List, [], length, Option, Some, None, refl, sym, ap, ap₂, ◌∙◌, subst, arith}
+use Rattle.std.proofs.Common.{◌≡◌, ℕ, ◌+◌, ◌-◌, ◌<◌, ◌^◌, List, [], length, Option, Some, None, refl, sym, ap, ap₂, ◌∙◌, subst, arith}
 use Rattle.std.specs.Prelude.{All, replicate}
 use Rattle.std.proofs.lemmas.List.{length-set}
 use Rattle.std.proofs.lemmas.List.Elements.{All-nil, All-set}
-use Rattle.std.proofs.lemmas.Option.{slice_get_within}
 use Rattle.srmt_base.specs.declared.limits.Limits.{Limits}
 use Rattle.srmt_base.specs.declared.side.Side.{Side}
 use Rattle.srmt_base.specs.declared.side.Side.TheVariants.{Lead, Trail}
@@ -32,7 +31,7 @@ use Rattle.world.specs.Standing.{Own, Standing, started_own}
 use Rattle.world.specs.Requests.{Runs}
 use Rattle.world.proofs.Plain.{is_main, is_protected}
 use Rattle.machine.specs.Side.{SideState, opening}
-use Rattle.machine.specs.Steps.{versions_of, passed_on, wanted}
+use Rattle.machine.specs.Steps.{versions_of, wanted}
 use Rattle.machine.specs.Fits.{HeardFits, SideFits, HoldsSmall}
 use Rattle.machine.proofs.FirstForm.{AreFit}
 use Rattle.machine.proofs.Groups.{table_of, table_sized, IsLast, OpFits}
@@ -83,9 +82,6 @@ module _ (side : Side) (program : SharedProgram) (s : SideState) (sites : HasSit
         each = goes.each;
         heard = heard_none side after.code.kinds n.0.op after.fits;
       }
-
-  pub fits_passed : (IsLast fits.line.op → ⊥) → SideFits side program (passed_on s)
-  fits_passed not_last = fits_next (passed_on s).at (record { function = refl; place = refl; count = refl; each = fits.each }) not_last
 
 -- an instruction that goes on, one case for each
 pub goes_on : (program : SharedProgram) (kinds : List RegisterKind) (mid : Mid) (line : ℕ) (s : SideState) (next : Standing) → AreFit kinds mid → HoldsSmall s → wanted program mid line s ≡ Runs next → GoesOn s.at.machine.top next.machine.top

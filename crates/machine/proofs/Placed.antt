@@ -1,8 +1,7 @@
 -- Where an instruction of a version stands: it fits, and another follows it, unless it is the last.
-use Rattle.std.proofs.Common.{◌≡◌, ℕ, zero, suc, ◌+◌, ◌-◌, ◌*◌, ◌<◌, ◌≤◌, ◌^◌, Bool, true, false, List, [], ◌∷◌, length, Option, Some, None, refl, sym, ap, ◌∙◌, subst, arith, inl, inr}
+use Rattle.std.proofs.Common.{◌≡◌, ℕ, zero, suc, ◌+◌, ◌-◌, ◌<◌, ◌^◌, Bool, true, false, List, [], ◌∷◌, length, Option, Some, None, refl, sym, ap, ◌∙◌, subst, arith, inl, inr}
 use Rattle.std.specs.Prelude.{slice_get, option_and_then}
 use Rattle.std.proofs.lemmas.Bool.{cases_lt}
-use Rattle.std.proofs.lemmas.List.{length-map}
 use Rattle.std.proofs.lemmas.Option.{slice_get_within}
 use Rattle.srmt_base.specs.declared.side.Side.{Side}
 use Rattle.srmt_base.specs.declared.side.Side.TheVariants.{Lead, Trail}
@@ -15,7 +14,7 @@ use Rattle.mid_code.specs.declared.version.VersionLine.{VersionLine}
 use Rattle.mid_code.specs.declared.version.Version.{Version}
 use Rattle.mid_code.specs.Program.{function_at}
 use Rattle.mid_code.specs.Ways.{is_final}
-use Rattle.mid_code.specs.Classes.{SharedProgram, Sharing, sharings, sites_of, class_of, classes_from, protected_functions}
+use Rattle.mid_code.specs.Classes.{SharedProgram, Sharing, sharings, sites_of, classes_from, protected_functions}
 use Rattle.mid_code.specs.Pairs.{HasSites}
 use Rattle.mid_code.specs.Versions.{Table, size_of, place_in, group_of, version_of, versions_from, versions_of as table_versions, version_at}
 use Rattle.mid_code.specs.CodeLaws.{StandsIn}

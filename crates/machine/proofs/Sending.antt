@@ -1,7 +1,7 @@
 -- Words that are sent one after another.
-use Rattle.std.proofs.Common.{◌≡◌, ℕ, ◌+◌, ◌-◌, ◌<◌, ◌≤◌, ◌^◌, Bool, true, false, List, [], ◌∷◌, ◌++◌, inl, inr, refl, sym, ap, subst, ◌∙◌, arith, length, map, take, get_or, length-append, append-nil, append_assoc}
+use Rattle.std.proofs.Common.{◌≡◌, ℕ, ◌+◌, ◌<◌, Bool, true, false, List, [], ◌∷◌, ◌++◌, refl, sym, ap, ◌∙◌, arith, length, map, take, get_or, length-append, append-nil, append_assoc}
 use Rattle.std.proofs.lemmas.List.{take_more, map-append}
-use Rattle.machine.specs.Link.{Shown, HasRoom, SentBelow, kept, dropped_more, IsSent}
+use Rattle.machine.specs.Link.{Shown, kept, dropped_more, IsSent}
 
 pub kept_none : (gone : Bool) (sent : List ℕ) → sent ≡ kept gone sent []
 kept_none true sent = refl
@@ -18,11 +18,6 @@ dropped_none false dropped = refl
 dropped_both : (gone : Bool) (dropped a b c : ℕ) → a + b ≡ c → dropped_more gone (dropped_more gone dropped a) b ≡ dropped_more gone dropped c
 dropped_both true dropped a b c e = omega arith
 dropped_both false dropped a b c e = refl
-
--- what is kept and dropped of these words are these words
-all_counted : (gone : Bool) (sent words : List ℕ) (dropped : ℕ) → length (kept gone sent words) + dropped_more gone dropped (length words) ≡ length sent + dropped + length words
-all_counted true sent words dropped = omega arith
-all_counted false sent words dropped = omega (arith, length-append sent words)
 
 pub sent_none : (link : Shown) → IsSent [] link link
 sent_none link = record {
@@ -52,19 +47,6 @@ sent_both first link after xs ys all e s t =
       asks = t.asks ∙ s.asks;
       last = t.last ∙ s.last;
     }
-
-module _ (first link : Shown) (words : List ℕ) (sent : IsSent words first link) where
-  -- there is room for one more
-  pub room_for_one : HasRoom 18 first → length words < 18 → HasRoom 1 link
-  room_for_one room few =
-      elim room as (λ _. HasRoom 1 link) [
-        | inl enough ↦ inl (omega (arith, sent.spare))
-        | inr gone ↦ inr (sent.gone ∙ gone)
-      ]
-
-  pub countable : SentBelow (2 ^ 62) first → length words ≤ 18 → SentBelow (2 ^ 63 - 1) link
-  countable below few =
-      omega (arith, ap length sent.sent, sent.dropped, all_counted first.gone first.sent words first.dropped)
 
 -- the words of one operand more
 pub words_more : (f : ℕ → ℕ) (r : ℕ → ℕ) (args : List ℕ) (i : ℕ) → i < length args → map f (map r (take i args)) ++ f (r (get_or args i 0)) ∷ [] ≡ map f (map r (take (i + 1) args))

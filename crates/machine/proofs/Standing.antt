@@ -1,20 +1,18 @@
 -- What a side that fits knows of the instruction at which it stands, and how the try of its step
 -- went by that instruction.
-use Rattle.std.proofs.Common.{◌≡◌, ℕ, ◌<◌, ◌≤◌, ◌^◌, true, false, List, [], ◌∷◌, length, Option, Some, None, refl, sym, ap, ◌∙◌, subst, arith}
-use Rattle.std.specs.Prelude.{IsTrue, slice_get, slice_index, get_or}
+use Rattle.std.proofs.Common.{◌≡◌, ℕ, ◌<◌, ◌≤◌, true, false, List, [], ◌∷◌, length, Option, Some, None, refl, sym, ap, ◌∙◌, subst, arith}
+use Rattle.std.specs.Prelude.{IsTrue, slice_index, get_or}
 use Rattle.srmt_base.specs.declared.event.Event.{Event}
 use Rattle.srmt_base.specs.declared.side.Side.{Side}
 use Rattle.srmt_base.specs.declared.side.Side.TheVariants.{Lead, Trail}
-use Rattle.mid_code.specs.declared.program.RegisterKind.{RegisterKind}
 use Rattle.mid_code.specs.Classes.{SharedProgram}
 use Rattle.mid_code.specs.Versions.{operands_list}
 use Rattle.srmt_base.specs.declared.word.Site.{Site}
 use Rattle.mid_code.specs.declared.mid.Mid.{Mid}
 use Rattle.srmt_base.specs.declared.request_kind.RequestKind.{RequestKind}
 use Rattle.srmt_base.specs.declared.request_kind.RequestKind.TheVariants.{Put as AsksPut, Exit as AsksExit}
-use Rattle.mid_code.specs.declared.version.Operands.{Operands}
 use Rattle.mid_code.specs.declared.version.VersionOp.{VersionOp}
-use Rattle.mid_code.specs.declared.version.VersionOp.TheVariants.{Copied, Ask, Await, Act, Check, Ack, End}
+use Rattle.mid_code.specs.declared.version.VersionOp.TheVariants.{Act}
 use Rattle.mid_code.specs.declared.version.VersionLine.{VersionLine}
 use Rattle.mid_code.specs.Pairs.{HasSites}
 use Rattle.world.specs.World.{WorldState, Lives, Over, is_live, ask}

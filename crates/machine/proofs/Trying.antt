@@ -1,25 +1,23 @@
 -- How the try of a step went, from what the code did.
-use Rattle.std.proofs.Common.{◌≡◌, ℕ, ◌<◌, Bool, true, false, List, [], ◌∷◌, ◌++◌, length, take, Some, cond, nat_eq, nat_lt, refl, sym, ap, ◌∙◌, subst}
+use Rattle.std.proofs.Common.{◌≡◌, ℕ, ◌<◌, Bool, true, false, List, [], ◌∷◌, ◌++◌, length, take, cond, nat_eq, nat_lt, refl, sym, ap, ◌∙◌, subst}
 use Rattle.srmt_base.specs.declared.event.Event.{Event}
 use Rattle.word_stream.specs.declared.request.Request.{Request}
 use Rattle.word_stream.specs.declared.request.Response.{Response}
-use Rattle.word_stream.specs.Exchange.{response_words}
 use Rattle.word_stream.proofs.Spelled.{no_words}
 use Rattle.world.specs.World.{WorldState, Over, Asked}
-use Rattle.machine.specs.declared.link_call.Taken.TheVariants.{Word, Closed as NoMore}
+use Rattle.machine.specs.declared.link_call.Taken.TheVariants.{Word}
 use Rattle.machine.specs.declared.link_call.LastCall.{LastCall}
 use Rattle.machine.specs.declared.link_call.LastCall.TheVariants.{Room, Take}
-use Rattle.verdicts.specs.declared.thread_end.ThreadEnd.{ThreadEnd}
 use Rattle.verdicts.specs.declared.thread_end.ThreadEnd.TheVariants.{Exit, Trap, Mismatch, Echo, PeerEnded, WriteFault}
 use Rattle.machine.specs.declared.stepped.Stepped.{Stepped}
 use Rattle.machine.specs.declared.stepped.Stepped.TheVariants.{Went as Made, NotYet, Ended as MadeLast}
-use Rattle.machine.specs.Side.{SideState, Meet, Plain, Got, Closed, Failed, Outcome, Went, Ended, StepGives}
-use Rattle.machine.specs.Steps.{passed_on, quiet, sends, step_room}
+use Rattle.machine.specs.Side.{SideState, Meet, Plain, Got, Closed, Failed, Outcome, Ended, StepGives}
+use Rattle.machine.specs.Steps.{quiet, sends, step_room}
 use Rattle.machine.specs.Meets.{MeetsBy}
-use Rattle.machine.specs.Link.{Shown, kept, dropped_more, IsAsked, IsSent, IsLater}
+use Rattle.machine.specs.Link.{Shown, kept, dropped_more, IsAsked}
 use Rattle.machine.specs.Leading.{answered, acts, awaits, compared, heard_by}
 use Rattle.machine.specs.Faults.{faults_after}
-use Rattle.machine.specs.Tried.{question, waiting, Asks, Comes, TriesBy}
+use Rattle.machine.specs.Tried.{question, Asks, Comes, TriesBy}
 use Rattle.machine.proofs.Sending.{kept_none, dropped_none}
 
 -- a step that was made: it asked its link this, and sent these words
@@ -49,20 +47,6 @@ took_word gives s s' w stepped before after word comes asked =
     made_so true false (λ meet. quiet w (gives meet)) (Got word) s s' w w stepped [] before after refl (asked.last, asked.asks, asked.taken)
     (none_kept _ before after asked) (none_lost _ before after asked) refl refl comes
 
--- a step that found its link closed
-pub was_closed : (gives : Meet → Outcome) (s s' : SideState) (w : WorldState) (end : ThreadEnd) (before after : Shown) →
-    gives Closed ≡ Ended end → IsAsked (Take NoMore) before after →
-    TriesBy true false (λ meet. quiet w (gives meet)) s w (MadeLast end) s' w [] before after
-was_closed gives s s' w end before after comes asked =
-    made_so true false (λ meet. quiet w (gives meet)) Closed s s' w w (MadeLast end) [] before after refl (asked.last, asked.asks, asked.taken)
-    (none_kept _ before after asked) (none_lost _ before after asked) refl refl comes
-
--- a step whose question was refused
-pub has_waited : (taking sending : Bool) (gives : Meet → StepGives) (call : LastCall) (s : SideState) (w : WorldState) (before after : Shown) →
-    waiting taking sending ≡ Some call → IsAsked call before after → TriesBy taking sending gives s w NotYet s w [] before after
-has_waited taking sending gives call s w before after refused asked =
-    record { call = call; refused = refused; asks = (asked.last, asked.asks, asked.taken); same_side = refl; same_world = refl; no_event = refl; none_sent = asked.sent; none_dropped = asked.dropped }
-
 -- a step that reached neither the other side nor the world
 pub was_quiet : (outcome : Outcome) (s s' : SideState) (w : WorldState) (stepped : Stepped) (link : Shown) →
     Comes stepped s' outcome → TriesBy false false (λ meet. quiet w outcome) s w stepped s' w [] link link
@@ -75,24 +59,6 @@ HadRoom before after = IsAsked (Room step_room true) before after
 
 pub had_room : (before after : Shown) (granted : Bool) → granted ≡ true → IsAsked (Room step_room granted) before after → HadRoom before after
 had_room before after granted is asked = subst (λ g. IsAsked (Room step_room g) before after) is asked
-
--- the words of a step that had room
-pub sent_so : (s s' : SideState) (w : WorldState) (words : List ℕ) (before between after : Shown) → HadRoom before between → IsSent words between after → s' ≡ passed_on s →
-    TriesBy false true (λ meet. sends w s words) s w Made s' w [] before after
-sent_so s s' w words before between after room sent passed =
-    made_so false true (λ meet. sends w s words) Plain s s' w w Made [] before after refl (sent.last ∙ room.last, sent.asks ∙ room.asks, sent.taken ∙ room.taken)
-    (sent.sent ∙ ap (λ g. kept g between.sent words) (sym sent.gone) ∙ ap (λ ws. kept after.gone ws words) room.sent)
-    (sent.dropped ∙ ap (λ g. dropped_more g between.dropped (length words)) (sym sent.gone) ∙ ap (λ n. dropped_more after.gone n (length words)) room.dropped)
-    refl refl (ap Went (sym passed))
-
-pub later_of : (call : LastCall) (before after : Shown) → IsAsked call before after → IsLater before after
-later_of call before after asked = record { made = asked.made; stays_gone = asked.stays_gone }
-
-pub later_both : (words : List ℕ) (before between after : Shown) → HadRoom before between → IsSent words between after → IsLater before after
-later_both words before between after room sent = record { made = sent.made ∙ room.made; stays_gone = λ h. sent.gone ∙ room.stays_gone h }
-
-pub later_same : (link : Shown) → IsLater link link
-later_same link = record { made = refl; stays_gone = λ h. h }
 
 -- the world has answered
 pub acted : (request : Request) (asked : Asked) (response : Response) (s s' : SideState) (w w' : WorldState) (stepped : Stepped) (before after : Shown) →

@@ -1,5 +1,5 @@
 -- An upset: a value that takes the place of another, in one side and just before one of its steps.
-use Rattle.std.specs.Prelude.{◌≡◌, ℕ, zero, suc, ◌+◌, ◌-◌, Bool, true, false, ◌&&◌, ◌||◌, ◌==◌, map, List, [], ◌∷◌, length, if◌then◌else◌, nat_eq, nat_le, nat_lt, slice_set, slice_get, Option, Some, None}
+use Rattle.std.specs.Prelude.{◌≡◌, ℕ, zero, suc, ◌-◌, Bool, true, false, ◌&&◌, ◌||◌, ◌==◌, map, List, [], ◌∷◌, length, if◌then◌else◌, nat_eq, nat_le, nat_lt, slice_set, slice_get, Option, Some, None}
 use Rattle.srmt_base.specs.declared.side.Side.{Side}
 use Rattle.srmt_base.specs.declared.side.Side.TheVariants.{Lead, Trail}
 use Rattle.std.specs.List.{list_any}

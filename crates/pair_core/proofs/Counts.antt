@@ -1,15 +1,14 @@
 -- The count of the outlet's faults over steps, events and whole runs.
-use Rattle.std.proofs.Common.{◌≡◌, ℕ, Bool, true, false, ◌&&◌, nat_eq, Option, Some, None, refl, sym, ap, ◌∙◌, subst}
+use Rattle.std.proofs.Common.{◌≡◌, ℕ, Bool, true, false, ◌&&◌, nat_eq, Option, refl, sym, ap, ◌∙◌}
 use Rattle.srmt_base.specs.declared.trap.Trap.{Trap as TrapName}
 use Rattle.srmt_base.specs.Trap.{trap_code, is_budget}
-use Rattle.srmt_outside.specs.Count.{next_count}
 use Rattle.verdicts.specs.declared.thread_end.ThreadEnd.{ThreadEnd}
 use Rattle.verdicts.specs.declared.thread_end.ThreadEnd.TheVariants.{Exit, Trap, Mismatch, Echo, PeerEnded, WriteFault}
 use Rattle.verdicts.specs.Verdict.{verdict_of_ends, exit_verdict, stopped_by, trap_verdict}
 use Rattle.machine.specs.declared.stepped.Stepped.{Stepped}
 use Rattle.machine.specs.declared.stepped.Stepped.TheVariants.{Went as Made, NotYet, Ended as MadeLast}
 use Rattle.machine.specs.Faults.{faults_after}
-use Rattle.machine.specs.Side.{SideState, Outcome, Went, Ended}
+use Rattle.machine.specs.Side.{SideState, Outcome, Went}
 use Rattle.pair_core.specs.Turns.{outcome_by, end_of_step}
 use Rattle.pair_core.specs.Faults.{is_fault, has_failed, faults_turned, CountsFaults, faults_told}
 

@@ -98,10 +98,6 @@ module _ (program : SharedProgram) (duo : DuoState) (clean : duo.lead ≢ Ended 
   turn_clean Lead = lead_clean duo.lead
   turn_clean Trail = trail_clean None duo.trail
 
-  -- an event of the trailing side is none of the outlet's
-  pub turn_trail_clean : (fails : Option ℕ) → (turn_of program no_upsets Trail fails duo).state.lead ≢ Ended WriteFault
-  turn_trail_clean fails = trail_clean fails duo.trail
-
 no_fault_run : (program : SharedProgram) (entries : List Entry) (sofar : Scheduled) → NoneFails entries → sofar.duo.lead ≢ Ended WriteFault → (run_on program no_upsets sofar entries).duo.lead ≢ Ended WriteFault
 no_fault_run program [] sofar none clean = clean
 no_fault_run program (entry ∷ entries) sofar none clean =

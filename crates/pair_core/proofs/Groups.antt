@@ -1,9 +1,7 @@
 -- The group of instructions that stands for one instruction of middle code, on either side. This is
 -- the one place that looks at the instructions one by one.
-use Rattle.std.proofs.Common.{◌≡◌, ℕ, zero, suc, ◌+◌, ◌-◌, ◌<◌, ◌≤◌, ◌%◌, true, false, List, [], ◌∷◌, length, Option, Some, None, slice_get, option_and_then, take, refl, sym, ap, ap₂, ◌∙◌, subst, arith}
+use Rattle.std.proofs.Common.{◌≡◌, ℕ, zero, suc, ◌+◌, ◌-◌, ◌<◌, ◌%◌, true, false, List, [], ◌∷◌, length, Option, Some, None, slice_get, option_and_then, take, refl, sym, ap, ap₂, ◌∙◌, subst, arith}
 use Rattle.srmt_base.specs.declared.limits.Limits.{Limits}
-use Rattle.srmt_base.specs.declared.part.Part.{Part}
-use Rattle.srmt_base.specs.declared.part.Part.TheVariants.{Protected, Binary}
 use Rattle.srmt_base.specs.declared.request_kind.RequestKind.{RequestKind}
 use Rattle.srmt_base.specs.declared.request_kind.RequestKind.TheVariants.{Put as AsksPut, Exit as AsksExit}
 use Rattle.srmt_base.specs.declared.trap.Trap.{Trap}
@@ -20,7 +18,6 @@ use Rattle.mid_code.specs.declared.mid.Mid.{Mid}
 use Rattle.mid_code.specs.declared.mid.Mid.TheVariants.{Const, Conv, Put, Exit}
 use Rattle.mid_code.specs.declared.program.MidFunction.{MidFunction}
 use Rattle.mid_code.specs.declared.program.MidLine.{MidLine}
-use Rattle.mid_code.specs.declared.program.MidProgram.{MidProgram}
 use Rattle.mid_code.specs.declared.version.Operands.TheVariants.{One}
 use Rattle.mid_code.specs.declared.version.VersionOp.{VersionOp}
 use Rattle.mid_code.specs.declared.version.VersionOp.TheVariants.{Copied, Ask, Await, Act, Check, Ack, End}
@@ -41,7 +38,7 @@ use Rattle.word_stream.specs.declared.request.Request.TheVariants.{Put as PutAsk
 use Rattle.word_stream.specs.declared.request.Response.{Response}
 use Rattle.word_stream.specs.Exchange.{request_site, operands_of, is_guarded, checks_of, acks_of}
 use Rattle.world.specs.Standing.{Standing, started_own, started_standing, standing_at, passed_on as passed}
-use Rattle.world.specs.Requests.{class_in, asked_as, request_of_top, Wants, Runs, Dies, Requests, Lost, wants_by, wants_alone, wants, Back, Over, resumed, resume}
+use Rattle.world.specs.Requests.{asked_as, request_of_top, Wants, Runs, Dies, Requests, Lost, wants_by, wants_alone, wants, Back, Over, resumed, resume}
 use Rattle.world.proofs.Plain.{is_main, is_protected, plain_line, class_of_line}
 use Rattle.machine.specs.Side.{SideState, Went, Ended}
 use Rattle.machine.specs.Steps.{passed_on}

@@ -6,9 +6,6 @@ use Rattle.pair_core.specs.Fit.{IsPrefix}
 pub prefix_refl : {A : Type 0} (xs : List A) → IsPrefix xs xs
 prefix_refl xs = ([], sym (append-nil xs))
 
-pub prefix_more : {A : Type 0} (xs ys : List A) → IsPrefix xs (xs ++ ys)
-prefix_more xs ys = (ys, refl)
-
 pub prefix_trans : {A : Type 0} (xs ys zs : List A) → IsPrefix xs ys → IsPrefix ys zs → IsPrefix xs zs
 prefix_trans xs ys zs p q = (p.0 ++ q.0, q.1 ∙ ap (λ t. t ++ q.0) p.1 ∙ append_assoc xs p.0 q.0)
 

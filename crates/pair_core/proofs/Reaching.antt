@@ -1,21 +1,16 @@
 -- What the loop over both sides needs to know of one event more.
-use Rattle.std.proofs.Common.{◌≡◌, ◌≢◌, ℕ, inl, inr, Bool, true, false, List, [], ◌∷◌, ◌++◌, length, Option, None, refl, sym, ap, ◌∙◌}
+use Rattle.std.proofs.Common.{◌≡◌, ℕ, Bool, true, false, List, [], ◌∷◌, ◌++◌, length, Option, refl, ap, ◌∙◌}
 use Rattle.srmt_base.specs.declared.event.Event.{Event}
 use Rattle.srmt_base.specs.declared.limits.Limits.{Limits}
 use Rattle.srmt_base.specs.declared.side.Side.{Side}
-use Rattle.srmt_base.specs.declared.side.Side.TheVariants.{Lead, Trail}
 use Rattle.mid_code.specs.Classes.{SharedProgram}
-use Rattle.mid_code.specs.Pairs.{HasSites}
-use Rattle.verdicts.specs.declared.thread_end.ThreadEnd.{ThreadEnd}
-use Rattle.machine.specs.declared.stepped.Stepped.TheVariants.{NotYet, Ended as MadeLast}
+use Rattle.machine.specs.declared.stepped.Stepped.TheVariants.{NotYet}
 use Rattle.machine.specs.Side.{SideState, Meet, Plain, Outcome, Went, Ended}
 use Rattle.machine.specs.Steps.{side_op, takes_at, may_send_at}
 use Rattle.machine.specs.Meets.{next_of}
 use Rattle.machine.specs.Upset.{no_upsets}
 use Rattle.pair_core.specs.Duo.{DuoState, opening_duo, View, view_of, Finds, Waits, Meets, meet_by, finds_room, is_crowded, finds_by, finds, turn_found, turn_at, turn_of, Entry, Scheduled, run_on, Reached}
-use Rattle.pair_core.specs.Laws.{CanGo}
 use Rattle.pair_core.proofs.Finding.{stepped_made}
-use Rattle.pair_core.proofs.Sounds.{sound_reached}
 
 pub reached_opening : (program : SharedProgram) (input : List ℕ) (limits : Limits) → Reached program input limits no_upsets (opening_duo program input limits) []
 reached_opening program input limits = ([], refl)
@@ -65,35 +60,3 @@ at_waits side program a b duo (Ended end) h = absurd (cc)
 
 pub waits_too : (program : SharedProgram) (side : Side) (a b : Option ℕ) (duo : DuoState) → (turn_of program no_upsets side a duo).stepped ≡ NotYet → (turn_of program no_upsets side b duo).stepped ≡ NotYet
 waits_too program side a b duo h = at_waits side program a b duo (view_of side duo).at h
-
--- a side that waits leaves the other to go, and one that has ended beside one that waits does not stand
-module _ (program : SharedProgram) (input : List ℕ) (limits : Limits) (duo : DuoState) (events : List Event) (sites : HasSites program) (reached : Reached program input limits no_upsets duo events) where
-  cannot : (side : Side) (fails : Option ℕ) → (turn_of program no_upsets side fails duo).stepped ≡ NotYet → CanGo program no_upsets side duo → ⊥
-  cannot side fails waits can = can.goes (waits_too program side fails None duo waits)
-
-  pub trail_goes_on : (fails : Option ℕ) → (turn_of program no_upsets Lead fails duo).stepped ≡ NotYet → (other : Option ℕ) → (turn_of program no_upsets Trail other duo).stepped ≢ NotYet
-  trail_goes_on fails waits other too =
-      elim (sound_reached program input limits duo events sites reached).ends_well.goes as (λ _. ⊥) [
-        | inl can ↦ cannot Lead fails waits can
-        | inr (inl can) ↦ cannot Trail other too can
-        | inr (inr both) ↦ let no : (turn_of program no_upsets Lead fails duo).stepped ≡ MadeLast both.0.0 = ap (λ o. (turn_at o Lead program fails duo).stepped) both.0.1 in
-            let clash : NotYet ≡ MadeLast both.0.0 = sym waits ∙ no in cc
-      ]
-
-  pub trail_goes_alone : (end : ThreadEnd) → duo.lead ≡ Ended end → (other : Option ℕ) → (turn_of program no_upsets Trail other duo).stepped ≢ NotYet
-  trail_goes_alone end over other too =
-      elim (sound_reached program input limits duo events sites reached).ends_well.goes as (λ _. ⊥) [
-        | inl can ↦ can.goes_on end over
-        | inr (inl can) ↦ cannot Trail other too can
-        | inr (inr both) ↦ let no : (turn_of program no_upsets Trail other duo).stepped ≡ MadeLast both.1.0 = ap (λ o. (turn_at o Trail program other duo).stepped) both.1.1 in
-            let clash : NotYet ≡ MadeLast both.1.0 = sym too ∙ no in cc
-      ]
-
-  pub lead_goes_alone : (end : ThreadEnd) → duo.trail ≡ Ended end → (other : Option ℕ) → (turn_of program no_upsets Lead other duo).stepped ≢ NotYet
-  lead_goes_alone end over other too =
-      elim (sound_reached program input limits duo events sites reached).ends_well.goes as (λ _. ⊥) [
-        | inl can ↦ cannot Lead other too can
-        | inr (inl can) ↦ can.goes_on end over
-        | inr (inr both) ↦ let no : (turn_of program no_upsets Lead other duo).stepped ≡ MadeLast both.0.0 = ap (λ o. (turn_at o Lead program other duo).stepped) both.0.1 in
-            let clash : NotYet ≡ MadeLast both.0.0 = sym too ∙ no in cc
-      ]

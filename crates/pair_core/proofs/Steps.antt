@@ -1,13 +1,12 @@
 -- The steps of both sides within the group of one instruction: the laws by which the runs of whole
 -- programs know them.
-use Rattle.std.proofs.Common.{◌≡◌, ℕ, ◌+◌, ◌<◌, false, List, [], ◌∷◌, ◌++◌, length, take, Some, None, slice_get, if◌then◌else◌, refl, sym, ap, ap₂, ◌∙◌, subst, arith, eq-eqb}
+use Rattle.std.proofs.Common.{◌≡◌, ℕ, ◌+◌, ◌<◌, false, List, [], ◌∷◌, ◌++◌, length, take, Some, None, slice_get, if◌then◌else◌, refl, sym, ap, ap₂, ◌∙◌, arith, eq-eqb}
 use Rattle.srmt_base.specs.declared.event.Event.{Event}
 use Rattle.srmt_base.specs.declared.side.Side.{Side}
 use Rattle.srmt_base.specs.declared.side.Side.TheVariants.{Lead, Trail}
 use Rattle.srmt_base.specs.declared.trap.SourceEnd.{SourceEnd}
 use Rattle.srmt_base.specs.declared.word.Kind.TheVariants.{Check as CheckKind, Ack as AckKind}
 use Rattle.srmt_base.specs.Word.{word_of}
-use Rattle.mid_code.specs.declared.mid.Mid.{Mid}
 use Rattle.mid_code.specs.Classes.{SharedProgram}
 use Rattle.mid_code.specs.declared.version.VersionOp.{VersionOp}
 use Rattle.mid_code.specs.declared.version.VersionOp.TheVariants.{Copied, Ask, Await, Act, Check, Ack, End}
@@ -98,9 +97,6 @@ module _ (program : SharedProgram) (m : Standing) (stands : Stands program m) (n
 
   pub lead_runs_takes : (next : Standing) → wants program m ≡ Runs next → takes_at (side_op Lead program (lead_side program m 0 [])) ≡ false
   lead_runs_takes next h = ap takes_at (lead_copied next h (group_runs program m stands n next h))
-
-  pub lead_runs_sends : (next : Standing) → wants program m ≡ Runs next → may_send_at (side_op Lead program (lead_side program m 0 [])) ≡ false
-  lead_runs_sends next h = ap may_send_at (lead_copied next h (group_runs program m stands n next h))
 
   pub trail_runs_takes : (next : Standing) → wants program m ≡ Runs next → takes_at (side_op Trail program (trail_side program m 0)) ≡ false
   trail_runs_takes next h = ap takes_at (trail_copied next h (group_runs program m stands n next h))

@@ -1,5 +1,5 @@
 -- What a run wants is what its next step of the meaning does.
-use Rattle.std.proofs.Common.{◌≡◌, ℕ, ◌+◌, ◌≤◌, List, [], Option, Some, None, take, refl, sym, ap, ◌∙◌, subst}
+use Rattle.std.proofs.Common.{◌≡◌, ℕ, ◌≤◌, List, [], Option, Some, None, take, refl, sym, subst}
 use Rattle.std.specs.Prelude.{IsTrue}
 use Rattle.srmt_base.specs.declared.event.Event.{Event}
 use Rattle.srmt_base.specs.declared.trap.SourceEnd.TheVariants.{Trap as TrapEnd}
@@ -23,7 +23,7 @@ use Rattle.word_stream.specs.declared.request.Request.TheVariants.{Put, Exit}
 use Rattle.word_stream.specs.declared.request.Response.{Response}
 use Rattle.world.specs.World.{WorldState, Lives, Over as NoMore, is_live, ask}
 use Rattle.world.specs.Standing.{Standing, started_standing}
-use Rattle.world.specs.Requests.{class_in, asked_at, asked_as, request_of_top, Wants, Runs, Dies, Requests, Lost, wants_by, wants, Resumed, Back, Over, resumed, resume}
+use Rattle.world.specs.Requests.{class_in, asked_as, request_of_top, Wants, Runs, Dies, Requests, Lost, wants_by, wants, Resumed, Back, Over, resumed, resume}
 use Rattle.world.proofs.Plain.{is_main, protected_line, class_of_line}
 
 -- a run of the meaning whose machine is that of a standing

@@ -1,4 +1,4 @@
-use Rattle.std.proofs.Common.{ℕ, ◌+◌, ◌<◌, List, [], ◌∷◌, ◌++◌, ◌≡◌, ap, ◌∙◌, arith, length, map, take, get_or}
+use Rattle.std.proofs.Common.{ℕ, ◌<◌, List, [], ◌∷◌, ◌++◌, ◌≡◌, ap, ◌∙◌, arith, length, map, take, get_or}
 use Rattle.srmt_base.specs.Word.{word_of}
 use Rattle.mid_code.specs.Versions.{operands_list}
 use Rattle.machine.specs.Steps.{holds}

@@ -1,12 +1,11 @@
-use Rattle.std.proofs.Common.{rules, [], ◌≡◌, ◌≤◌, ◌+◌, ◌∙◌, ap, length, sym, subst, arith}
+use Rattle.std.proofs.Common.{rules, [], ◌≡◌, ◌+◌, ◌∙◌, ap, length, sym, subst, arith}
 use Rattle.std.specs.Prelude.{replicate}
 use Rattle.srmt_base.specs.Statics.{static_cells}
 use Rattle.mid_code.specs.declared.program.MidProgram.{MidProgram}
 use Rattle.mid_code.specs.Program.{function_at}
 use Rattle.mid_code.specs.Classes.{SharedProgram}
 use Rattle.mid_code.proofs.Naming.{whole, few_statics}
-use Rattle.world.specs.Standing.{Own, started_own}
-use Rattle.machine.specs.Side.{opening}
+use Rattle.world.specs.Standing.{started_own}
 use Rattle.machine.specs.Fits.{SideFits}
 use Rattle.machine.proofs.Fitting.{register_count, standing, own_is, opening_is, fits_opening}
 use Rattle.machine.proofs.machine.Machine.start.Goals as goal
