@@ -12,14 +12,17 @@ pub type Table<A> = &'static [(u16, A)];
 
 const KEYWORD: u16 = 256;
 
+/// The kind of the first punctuator.
 pub const PUNCT: u16 = 512;
 
+/// An identifier.
 pub const NAME: u16 = 0;
 
 const NUMBER: u16 = 1;
 
 const CHARACTER: u16 = 2;
 
+/// A string literal.
 pub const TEXT: u16 = 3;
 
 /// A number for each kind of token, whatever its value.
@@ -36,46 +39,67 @@ pub fn code(kind: TokenKind) -> u16
     }
 }
 
+/// `[`
 pub const OPEN_BRACKET: u16 = PUNCT;
 
+/// `]`
 pub const CLOSE_BRACKET: u16 = PUNCT + 1;
 
+/// `(`
 pub const OPEN_PAREN: u16 = PUNCT + 2;
 
+/// `)`
 pub const CLOSE_PAREN: u16 = PUNCT + 3;
 
+/// `{`
 pub const OPEN_BRACE: u16 = PUNCT + 4;
 
+/// `}`
 pub const CLOSE_BRACE: u16 = PUNCT + 5;
 
+/// `*`
 pub const STAR: u16 = PUNCT + 11;
 
+/// `?`
 pub const QUESTION: u16 = PUNCT + 30;
 
+/// `:`
 pub const COLON: u16 = PUNCT + 31;
 
+/// `;`
 pub const SEMICOLON: u16 = PUNCT + 32;
 
+/// `=`
 pub const EQUALS: u16 = PUNCT + 34;
 
+/// `,`
 pub const COMMA: u16 = PUNCT + 45;
 
+/// `break`
 pub const BREAK: u16 = KEYWORD + 1;
 
+/// `continue`
 pub const CONTINUE: u16 = KEYWORD + 5;
 
+/// `do`
 pub const DO: u16 = KEYWORD + 7;
 
+/// `else`
 pub const ELSE: u16 = KEYWORD + 9;
 
+/// `for`
 pub const FOR: u16 = KEYWORD + 13;
 
+/// `if`
 pub const IF: u16 = KEYWORD + 15;
 
+/// `return`
 pub const RETURN: u16 = KEYWORD + 21;
 
+/// `sizeof`
 pub const SIZEOF: u16 = KEYWORD + 24;
 
+/// `while`
 pub const WHILE: u16 = KEYWORD + 33;
 
 /// The operators between two operands, by level from 0, the tightest first (C11 6.5.5 to 6.5.14).
