@@ -24,3 +24,4 @@ pub mod OrderedUnits
 pub mod TypingDeclarations
 pub mod TypingStatements
 pub mod TypingUnits
+pub mod Laws
