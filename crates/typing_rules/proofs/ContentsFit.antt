@@ -1,12 +1,12 @@
 -- In every typed program what each static object starts with fits its cells.
-use Rattle.std.proofs.Common.{◌≡◌, ℕ, Bool as Test, true, false, List, [], ◌∷◌, refl, ap, sym, subst, Option, Some, None}
+use Rattle.std.proofs.Common.{Bool as Test, true, false, List, [], ◌∷◌, sym, subst, Option, Some, None}
 use Rattle.std.specs.Prelude.{if◌then◌else◌, ◌&&◌}
 use Rattle.c_types.specs.Types.{cells_of}
 use Rattle.c_typed.specs.Statements as t
 use Rattle.typing_rules.specs.SourceUnits.{Unit as SourceUnit}
 use Rattle.typing_rules.specs.Known.{Known, File, Entity, First, entity_at}
-use Rattle.typing_rules.specs.UnitRules.{is_defined_in, is_object, static_of, statics_of, typed_file, no_file, nothing_known, binary_begun}
-use Rattle.typing_rules.specs.TypingUnits.{IsFile, IsBinary, IsProgram, Types}
+use Rattle.typing_rules.specs.UnitRules.{is_defined_in, is_object, static_of, statics_of, nothing_known}
+use Rattle.typing_rules.specs.TypingUnits.{IsFile, IsBinary, Types}
 use Rattle.typing_rules.specs.Laws.{Each, AreWithin, StaticsFit, ContentsFit}
 use Rattle.typing_rules.proofs.Keeping.{AreFit, entity_fits}
 use Rattle.typing_rules.proofs.UnitsKeep.{keeps_externals}

@@ -1,12 +1,12 @@
 -- The contents that an initializer gives an object fit its cells.
-use Rattle.std.proofs.Common.{◌≡◌, ℕ, zero, suc, ◌+◌, ◌*◌, ◌<◌, ◌≤◌, Bool as Test, true, false, not, List, [], ◌∷◌, ◌++◌, length, refl, ap, sym, subst, ◌∙◌, Option, Some, None, inl, inr, ◌⊎◌, arith}
-use Rattle.std.specs.Prelude.{map, IsTrue, IsFalse, ◌&&◌, ◌==◌, nat_le, if◌then◌else◌}
+use Rattle.std.proofs.Common.{◌≡◌, ℕ, zero, suc, ◌+◌, ◌*◌, ◌<◌, ◌≤◌, Bool as Test, true, false, List, [], ◌∷◌, ◌++◌, length, refl, ap, sym, subst, ◌∙◌, Option, Some, None, inl, inr, arith}
+use Rattle.std.specs.Prelude.{map, IsTrue, ◌&&◌, nat_le, if◌then◌else◌}
 use Rattle.srmt_base.specs.declared.ty.Ty.{Ty}
 use Rattle.srmt_base.specs.declared.ty.Ty.TheVariants as ty
-use Rattle.c_typed.specs.declared.program.StartCell.{StartCell}
 use Rattle.c_typed.specs.Statements.{Cell}
-use Rattle.c_types.specs.Types.{CType, void, integer, pointer, array, returning, taking, Qualified, is_complete, composite, cells_of, cells_of_integer, same_type, same_length, same_qualifiers, are_for_one, may_be_one, ty_of, function_of}
+use Rattle.c_types.specs.Types.{CType, void, integer, pointer, array, returning, taking, Qualified, is_complete, composite, cells_of, cells_of_integer, same_type, same_length, same_qualifiers, are_for_one, function_of}
 use Rattle.c_tree.specs.declared.specifier.SpecifierWord.{SpecifierWord}
+use Rattle.typing_rules.specs.UnitRules.{with_contents}
 use Rattle.typing_rules.specs.SpecifierRules.{Specified, Naming, named_by, name_alike, namings}
 use Rattle.typing_rules.specs.DeclaratorRules.{Derivation, to_pointer, to_array, to_function, parameter_type}
 use Rattle.typing_rules.specs.Declarators.{Says, DerivesType, IsDerived}
@@ -20,16 +20,12 @@ use Rattle.std.proofs.lemmas.Bool.Decides.{leb_tells}
 use Rattle.typing_rules.proofs.Exactness.{some_same}
 use Rattle.typing_rules.specs.Source.{Bytes, Named, Expr}
 use Rattle.typing_rules.specs.SourceUnits.{Initial, single, braced, Initials, no_initials, first_initial}
-use Rattle.typing_rules.specs.Known as known
-use Rattle.typing_rules.specs.Known.{Known, Linked, Entity, entity_at}
-use Rattle.typing_rules.specs.DeclarationRules.{Defining, fully, TextAt, text_for, text_cells, text_fits, byte_cells, completed, starts_of, is_past, initials_count, composed}
-use Rattle.typing_rules.specs.OrderedDeclarations.{Initialized}
-use Rattle.typing_rules.specs.OrderedUnits.{with_contents}
-use Rattle.typing_rules.specs.Holding.{Typing, Sequence, Makes}
+use Rattle.typing_rules.specs.Known.{Known, Linked, entity_at}
+use Rattle.typing_rules.specs.DeclarationRules.{Defining, fully, TextAt, text_for, text_cells, text_fits, byte_cells, completed, starts_of, initials_count, Initialized}
 use Rattle.typing_rules.specs.TypingDeclarations.{IsScalar, IsTextGiven, AreSingleCells, AreCellsGiven, AreItemsGiven, IsInitialized}
 use Rattle.typing_rules.specs.TypingUnits.{IsDefined, AreCountedIf, IsDefinedWith}
 use Rattle.typing_rules.specs.Laws.{Each, AreWithin}
-use Rattle.typing_rules.proofs.Keeping.{Keeps, IsFit, AreFit, keeps_is, keeps_holds, keeps_asks, keeps_bind, keeps_either, keeps_changed, keeps_definition, each_append, each_set, entity_fits, within_more}
+use Rattle.typing_rules.proofs.Keeping.{Keeps, IsFit, AreFit, keeps_is, keeps_holds, keeps_asks, keeps_bind, keeps_either, keeps_definition, each_append, each_set, within_more}
 use Rattle.typing_rules.proofs.PartsKeep.{keeps_counted}
 use Rattle.typing_rules.proofs.DeclarationsKeep.{keeps_initialized}
 

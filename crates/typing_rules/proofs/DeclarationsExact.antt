@@ -1,9 +1,8 @@
 -- Declarations and initializers: the ordered function and the relation are one.
-use Rattle.std.proofs.Common.{◌≡◌, ℕ, suc, ◌+◌, ◌≤◌, Bool as Test, true, false, not, List, [], ◌∷◌, length, refl, Option, Some, None, inl, inr, ◌⊎◌, ◌↔◌, arith}
-use Rattle.std.specs.Prelude.{IsTrue, IsFalse, IsSome, ◌||◌, nat_le, is_some}
+use Rattle.std.proofs.Common.{ℕ, suc, ◌+◌, Bool as Test, false, not, List, [], ◌∷◌, Option, Some, None, ◌⊎◌, ◌↔◌, arith}
+use Rattle.std.specs.Prelude.{IsTrue, IsFalse, IsSome, ◌||◌, is_some}
 use Rattle.c_types.specs.Types.{CType, void, integer, pointer, array, returning, taking, Qualified, is_void, is_function, is_complete, cells_of, same_type}
 use Rattle.c_typed.specs.declared.program.Start.{Start}
-use Rattle.c_typed.specs.Starts.{start_of}
 use Rattle.typing_rules.specs.declared.refusal.TypeRefusal.TheVariants.{Twice, Mismatch, TooLarge}
 use Rattle.typing_rules.specs.declared.refusal.Size.TheVariants.{Cells}
 use Rattle.typing_rules.specs.Source.{Named, Expr, line_of}
@@ -13,12 +12,12 @@ use Rattle.typing_rules.specs.Known.{Known, Linked, Meaning, Predeclared, innerm
 use Rattle.typing_rules.specs.Limits.{most_cells}
 use Rattle.typing_rules.specs.Terms.{operand_of}
 use Rattle.typing_rules.specs.SpecifierRules.{Storage, no_word}
-use Rattle.typing_rules.specs.DeclaratorRules.{lines_of, name_of, first_of_declarator}
+use Rattle.typing_rules.specs.DeclaratorRules.{lines_of, name_of, first_of_declarator, or_no_name}
 use Rattle.typing_rules.specs.DeclarationRules.{agrees_before, TextAt, text_for, text_fits, completed, is_past}
 use Rattle.typing_rules.specs.Exact.{Exact}
-use Rattle.typing_rules.specs.OrderedDeclarations.{links, value_of, insides, misshapen, scalar_cells, text_given, single_cells, cells_given, items_given, initialized, predeclared_again, linked_in_block, function_meaning, no_initial, function_in_block, local_initialized, object_in_block, or_no_name, item_in_block, items_in_block, declared_in_block}
-use Rattle.typing_rules.specs.TypingDeclarations.{IsLinked, IsValueOf, IsStart, IsScalar, IsTextGiven, AreSingleCells, AreCellsGiven, AreItemsGiven, IsInitialized, IsPredeclaredAgain, IsLinkedInBlock, IsFunctionMeaning, HasNoInitial, IsFunctionInBlock, IsLocalInitialized, IsObjectInBlock, IsItemInBlock, AreItemsInBlock, IsDeclaredInBlock}
-use Rattle.typing_rules.proofs.Exactness.{exact_pure, exact_refuse, exact_refused, exact_asks, exact_makes, exact_bind, exact_needs, exact_tests, exact_ruled, exact_choose, exact_from_result}
+use Rattle.typing_rules.specs.OrderedDeclarations.{links, value_of, insides, scalar_cells, text_given, single_cells, cells_given, items_given, initialized, linked_in_block, function_meaning, no_initial, function_in_block, local_initialized, object_in_block, item_in_block, items_in_block, declared_in_block}
+use Rattle.typing_rules.specs.TypingDeclarations.{IsLinked, IsValueOf, IsStart, IsScalar, IsTextGiven, AreSingleCells, AreCellsGiven, AreItemsGiven, IsInitialized, IsLinkedInBlock, IsFunctionMeaning, HasNoInitial, IsFunctionInBlock, IsLocalInitialized, IsObjectInBlock, IsItemInBlock, AreItemsInBlock, IsDeclaredInBlock}
+use Rattle.typing_rules.proofs.Exactness.{exact_pure, exact_refused, exact_asks, exact_makes, exact_bind, exact_needs, exact_tests, exact_ruled, exact_choose, exact_from_result}
 use Rattle.typing_rules.proofs.RulesAllow.{conversion_allows}
 use Rattle.typing_rules.proofs.PartsExact.{null_is_integer, exact_written, at_most}
 use Rattle.typing_rules.proofs.DeclaratorsExact.{exact_specified, derived_allows, is_there, exact_declares}

@@ -1,22 +1,15 @@
 -- Declarations in blocks keep that the contents of objects fit.
-use Rattle.std.proofs.Common.{◌≡◌, ℕ, suc, ◌+◌, ◌≤◌, Bool as Test, true, false, not, List, [], ◌∷◌, length, refl, Option, Some, None, inl, inr, ◌⊎◌, ◌↔◌, arith}
-use Rattle.std.specs.Prelude.{IsTrue, IsFalse, IsSome, ◌||◌, nat_le, is_some}
-use Rattle.c_types.specs.Types.{CType, void, integer, pointer, array, returning, taking, Qualified, is_void, is_function, is_complete, cells_of, same_type}
-use Rattle.c_typed.specs.declared.program.Start.{Start}
-use Rattle.c_typed.specs.Starts.{start_of}
+use Rattle.std.proofs.Common.{ℕ, suc, ◌+◌, Bool as Test, false, List, [], ◌∷◌, refl, Option, Some, None}
+use Rattle.c_types.specs.Types.{CType, void, integer, pointer, array, returning, taking, Qualified, cells_of}
 use Rattle.typing_rules.specs.Source.{Named, Expr, line_of}
 use Rattle.typing_rules.specs.SourceUnits.{Initial, single, braced, Initials, no_initials, first_initial, Item, Declaration}
 use Rattle.typing_rules.specs.Known as known
 use Rattle.typing_rules.specs.Known.{Known, Linked, Meaning, Predeclared, innermost, found_in, predeclared_scope, type_of_predeclared}
-use Rattle.typing_rules.specs.Limits.{most_cells}
-use Rattle.typing_rules.specs.Terms.{operand_of}
 use Rattle.typing_rules.specs.SpecifierRules.{Storage, no_word}
-use Rattle.typing_rules.specs.DeclaratorRules.{lines_of, name_of, first_of_declarator}
-use Rattle.typing_rules.specs.DeclarationRules.{agrees_before, TextAt, text_for, text_fits, completed, is_past}
-use Rattle.typing_rules.specs.OrderedDeclarations.{links, value_of, insides, misshapen, scalar_cells, text_given, single_cells, cells_given, items_given, initialized, predeclared_again, linked_in_block, function_meaning, no_initial, function_in_block, local_initialized, object_in_block, or_no_name, item_in_block, items_in_block, declared_in_block}
-use Rattle.typing_rules.specs.TypingDeclarations.{IsLinked, IsValueOf, IsStart, IsScalar, IsTextGiven, AreSingleCells, AreCellsGiven, AreItemsGiven, IsInitialized, IsPredeclaredAgain, IsLinkedInBlock, IsFunctionMeaning, HasNoInitial, IsFunctionInBlock, IsLocalInitialized, IsObjectInBlock, IsItemInBlock, AreItemsInBlock, IsDeclaredInBlock}
-use Rattle.typing_rules.proofs.Keeping.{Keeps, keeps_is, keeps_never, keeps_given, keeps_holds, keeps_such, keeps_asks, keeps_makes, keeps_bind, keeps_such_then, keeps_either, keeps_type, keeps_first, keeps_entity, keeps_definition}
-use Rattle.typing_rules.specs.OrderedDeclarations.{or_no_name}
+use Rattle.typing_rules.specs.DeclaratorRules.{lines_of, name_of, first_of_declarator, or_no_name}
+use Rattle.typing_rules.specs.DeclarationRules.{TextAt, text_for}
+use Rattle.typing_rules.specs.TypingDeclarations.{IsLinked, IsValueOf, IsScalar, IsTextGiven, AreSingleCells, AreCellsGiven, AreItemsGiven, IsInitialized, IsLinkedInBlock, IsFunctionMeaning, HasNoInitial, IsFunctionInBlock, IsLocalInitialized, IsObjectInBlock, IsItemInBlock, AreItemsInBlock, IsDeclaredInBlock}
+use Rattle.typing_rules.proofs.Keeping.{Keeps, keeps_is, keeps_never, keeps_given, keeps_holds, keeps_such, keeps_asks, keeps_makes, keeps_bind, keeps_either, keeps_first, keeps_entity}
 use Rattle.typing_rules.proofs.PartsKeep.{keeps_written}
 use Rattle.typing_rules.proofs.DeclaratorsKeep.{keeps_specified, keeps_declares}
 use Rattle.typing_rules.proofs.TermsKeep.{keeps_term, keeps_derivations}

@@ -1,29 +1,26 @@
 -- Specifiers and declarators: the ordered function and the relation are one.
-use Rattle.std.proofs.Common.{◌≡◌, ℕ, suc, ◌≤◌, ◌<◌, ◌+◌, Bool as Test, true, false, List, [], ◌∷◌, length, refl, ap, sym, ◌∙◌, Option, Some, None, Result, Ok, Err, inl, inr, ◌⊎◌, ◌↔◌, arith}
-use Rattle.std.specs.Prelude.{if◌then◌else◌, nat_le, nat_lt, IsTrue, IsFalse, ◌==◌, is_none, ◌&&◌}
-use Rattle.std.proofs.lemmas.Bool.{leb-true, le-leb}
+use Rattle.std.proofs.Common.{◌≡◌, ℕ, ◌≤◌, ◌<◌, Bool as Test, true, false, List, [], ◌∷◌, refl, ap, sym, ◌∙◌, Option, Some, None, Result, Ok, Err, ◌↔◌, arith}
+use Rattle.std.specs.Prelude.{if◌then◌else◌, IsTrue, IsFalse, is_none}
 use Rattle.std.proofs.lemmas.Bool.Decides.{leb_tells}
-use Rattle.c_types.specs.Types.{CType, Qualified, is_void, is_integer, is_complete, is_function, is_array, array_of, adjusted}
+use Rattle.c_types.specs.Types.{CType, Qualified, is_void, is_integer, adjusted}
 use Rattle.c_types.specs.Rules.{Ruled}
 use Rattle.c_tree.specs.declared.specifier.SpecifierWord.{SpecifierWord}
 use Rattle.c_typed.specs.declared.constant.Constant.{Constant}
-use Rattle.c_typed.specs.declared.constant.Constant.TheVariants.{NoForm, Traps, Value as Number}
-use Rattle.c_typed.specs.Typed.{Value, type_of}
-use Rattle.c_typed.specs.Constants.{constant_of}
+use Rattle.c_typed.specs.declared.constant.Constant.TheVariants.{Value as Number}
 use Rattle.typing_rules.specs.declared.refusal.TypeRefusal.{TypeRefusal}
-use Rattle.typing_rules.specs.declared.refusal.TypeRefusal.TheVariants.{Twice, Mismatch, TooLarge}
+use Rattle.typing_rules.specs.declared.refusal.TypeRefusal.TheVariants.{Twice}
 use Rattle.typing_rules.specs.Source.{Named, Specifiers, Declarator, Parameters}
 use Rattle.typing_rules.specs.Known as known
 use Rattle.typing_rules.specs.Known.{Known, Meaning, Local, innermost, found_in}
-use Rattle.typing_rules.specs.Limits.{most_cells, most_parameters}
-use Rattle.typing_rules.specs.SpecifierRules.{Specified, specified_by, specified_as, storage_fits, storage_in, qualifiers_in, named_by, namings}
-use Rattle.typing_rules.specs.DeclaratorRules.{Derivation, to_pointer, to_array, to_function, Lines, lines_of, name_of, is_empty_list, length_of, constant_length, fits_cells, pointed_to, arrayed, returned, derived_by, derived_from, derived, parameter_of}
+use Rattle.typing_rules.specs.Limits.{most_cells}
+use Rattle.typing_rules.specs.SpecifierRules.{Specified, specified_as, storage_fits, storage_in, qualifiers_in, named_by, namings}
+use Rattle.typing_rules.specs.DeclaratorRules.{Derivation, to_pointer, to_array, to_function, Lines, lines_of, name_of, is_empty_list, constant_length, derived_by, derived_from, derived, parameter_of}
 use Rattle.typing_rules.specs.Checking.{Checking}
 use Rattle.typing_rules.specs.Holding.{Typing}
 use Rattle.typing_rules.specs.Exact.{Exact}
 use Rattle.typing_rules.specs.OrderedParts.{specified, declares, named_local, parameter, parameter_list}
-use Rattle.typing_rules.specs.Declarators.{Says, AreSpecified, IsLength, DerivesType, IsDerived, IsParameterType, IsDeclared, IsNamedLocal, IsParameter, IsParameterList}
-use Rattle.typing_rules.proofs.Exactness.{exact_pure, exact_refuse, exact_asks, exact_makes, exact_bind, exact_needs, exact_tests, exact_ruled, exact_given, exact_choose, exact_from_result, allowed_same, refused_no_ok, some_same}
+use Rattle.typing_rules.specs.Declarators.{AreSpecified, DerivesType, IsDerived, IsParameterType, IsDeclared, IsNamedLocal, IsParameter, IsParameterList}
+use Rattle.typing_rules.proofs.Exactness.{exact_pure, exact_asks, exact_makes, exact_bind, exact_tests, exact_ruled, exact_choose, exact_from_result, allowed_same, refused_no_ok, some_same}
 
 specified_allows : (test : Test) (o : Option CType) (words : List SpecifierWord) (s : Specified)
     → (Path (Ruled Specified) (if test then specified_as o words else Err 21) (Ok s)) ↔ (IsTrue test × ((t : CType) × (o ≡ Some t) × (s ≡ record { storage = storage_in words; type = record { qualifiers = qualifiers_in words; type = t } })))

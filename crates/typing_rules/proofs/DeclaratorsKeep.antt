@@ -1,21 +1,13 @@
 -- Declarators keep that the contents of objects fit.
-use Rattle.std.proofs.Common.{◌≡◌, ℕ, suc, ◌≤◌, ◌<◌, ◌+◌, Bool as Test, true, false, List, [], ◌∷◌, length, refl, ap, sym, ◌∙◌, Option, Some, None, Result, Ok, Err, inl, inr, ◌⊎◌, ◌↔◌, arith}
-use Rattle.std.specs.Prelude.{if◌then◌else◌, nat_le, nat_lt, IsTrue, IsFalse, ◌==◌, is_none, ◌&&◌}
-use Rattle.c_types.specs.Types.{CType, Qualified, is_void, is_integer, is_complete, is_function, is_array, array_of, adjusted}
-use Rattle.c_tree.specs.declared.specifier.SpecifierWord.{SpecifierWord}
-use Rattle.c_typed.specs.declared.constant.Constant.{Constant}
-use Rattle.c_typed.specs.declared.constant.Constant.TheVariants.{NoForm, Traps, Value as Number}
-use Rattle.c_typed.specs.Typed.{Value, type_of}
-use Rattle.c_typed.specs.Constants.{constant_of}
+use Rattle.std.proofs.Common.{ℕ, Bool as Test, List, refl, Option, Some, None}
+use Rattle.c_types.specs.Types.{Qualified}
 use Rattle.typing_rules.specs.Source.{Named, Specifiers, Declarator, Parameters}
 use Rattle.typing_rules.specs.Known as known
 use Rattle.typing_rules.specs.Known.{Known, Meaning, Local, innermost, found_in}
-use Rattle.typing_rules.specs.Limits.{most_cells, most_parameters}
-use Rattle.typing_rules.specs.SpecifierRules.{Specified, specified_by, specified_as, storage_fits, storage_in, qualifiers_in, named_by, namings}
-use Rattle.typing_rules.specs.DeclaratorRules.{Derivation, to_pointer, to_array, to_function, Lines, lines_of, name_of, is_empty_list, length_of, constant_length, fits_cells, pointed_to, arrayed, returned, derived_by, derived_from, derived, parameter_of}
+use Rattle.typing_rules.specs.DeclaratorRules.{Derivation, name_of}
 use Rattle.typing_rules.specs.Holding.{Typing}
-use Rattle.typing_rules.specs.Declarators.{Says, AreSpecified, IsLength, DerivesType, IsDerived, IsParameterType, IsDeclared, IsNamedLocal, IsParameter, IsParameterList}
-use Rattle.typing_rules.proofs.Keeping.{Keeps, keeps_is, keeps_never, keeps_given, keeps_holds, keeps_such, keeps_asks, keeps_makes, keeps_bind, keeps_such_then, keeps_either, keeps_type, keeps_first, keeps_entity, keeps_definition}
+use Rattle.typing_rules.specs.Declarators.{AreSpecified, IsDeclared, IsNamedLocal, IsParameter, IsParameterList}
+use Rattle.typing_rules.proofs.Keeping.{Keeps, keeps_is, keeps_holds, keeps_such, keeps_asks, keeps_makes, keeps_bind, keeps_either}
 
 
 pub keeps_specified : (may_store : Test) (s : Specifiers) → Keeps (AreSpecified may_store s)

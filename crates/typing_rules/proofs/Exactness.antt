@@ -1,6 +1,6 @@
 -- What is made of exact parts is exact.
-use Rattle.std.proofs.Common.{◌≡◌, ℕ, ◌≤◌, Bool as Test, true, false, List, refl, ap, sym, subst, ◌∙◌, Option, Some, None, Result, Ok, Err, inl, inr, ◌⊎◌, ◌↔◌, arith}
-use Rattle.std.specs.Prelude.{if◌then◌else◌, nat_le, IsTrue, IsFalse}
+use Rattle.std.proofs.Common.{◌≡◌, ℕ, Bool as Test, true, false, refl, ap, sym, subst, Option, Some, None, Result, Ok, Err, inl, inr, ◌↔◌}
+use Rattle.std.specs.Prelude.{IsTrue, IsFalse}
 use Rattle.c_types.specs.Rules.{Ruled}
 use Rattle.typing_rules.specs.declared.refusal.TypeRefusal.{TypeRefusal}
 use Rattle.typing_rules.specs.Known.{Known}

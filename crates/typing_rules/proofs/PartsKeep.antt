@@ -1,20 +1,16 @@
 -- The parts of expressions keep that the contents of objects fit.
-use Rattle.std.proofs.Common.{◌≡◌, ℕ, suc, ◌≤◌, ◌<◌, ◌+◌, Bool as Test, true, false, List, [], ◌∷◌, length, refl, ap, sym, ◌∙◌, Option, Some, None, Result, Ok, Err, inl, inr, ◌⊎◌, ◌↔◌, arith}
-use Rattle.std.specs.Prelude.{if◌then◌else◌, nat_le, nat_lt, IsTrue, IsFalse, ◌==◌, is_none, ◌&&◌}
-use Rattle.srmt_base.specs.declared.ty.Ty.{Ty}
+use Rattle.std.proofs.Common.{ℕ, suc, true, false, List, [], ◌∷◌, length, refl, Option, Some, None}
 use Rattle.srmt_base.specs.declared.op.Op.{Op}
-use Rattle.c_types.specs.Types.{CType, Qualified, is_integer, is_function, parameters_of}
+use Rattle.c_types.specs.Types.{CType, Qualified, parameters_of}
 use Rattle.c_typed.specs.Typed as t
 use Rattle.c_typed.specs.Typed.{Place, place, PlaceNode, Value, value, Values, type_of}
-use Rattle.typing_rules.specs.Source.{Bytes, Named}
+use Rattle.typing_rules.specs.Source.{Bytes}
 use Rattle.typing_rules.specs.Known as known
 use Rattle.typing_rules.specs.Known.{Known, Meaning, Local, meaning_of, local_at, entity_at, is_main}
-use Rattle.typing_rules.specs.Limits.{most_cells, most_static_cells, most_types}
-use Rattle.typing_rules.specs.Terms.{Term, object, result, designator, Designated, entity, predeclared, through, Written, written_type, operand_of, Target, may_change, Change}
-use Rattle.typing_rules.specs.Holding.{Typing, Is, Such, Given, Asks, Makes, Never}
+use Rattle.typing_rules.specs.Terms.{Term, object, result, designator, Designated, entity, predeclared, through, Written, Target, Change}
+use Rattle.typing_rules.specs.Holding.{Typing}
 use Rattle.typing_rules.specs.TypingParts.{IsDesignated, IsValue, IsWritten, IsMeant, IsNamed, AreCounted, IsText, IsIndexed, IsIndirect, IsMarked, IsAddress, IsOpposite, IsPromoted, IsNegative, IsComplement, IsComputed, AreTested, IsConjunction, IsDisjunction, IsChosen, IsTarget, IsAssigned, IsChanged, IsCast, IsUnvalued, IsSized, IsCalled, ArePassed, IsCounted, IsCallThrough, IsCall}
-use Rattle.typing_rules.specs.Constraints.{Converts}
-use Rattle.typing_rules.proofs.Keeping.{Keeps, keeps_is, keeps_never, keeps_given, keeps_holds, keeps_such, keeps_asks, keeps_makes, keeps_bind, keeps_such_then, keeps_either, keeps_type, keeps_first, keeps_entity, keeps_definition}
+use Rattle.typing_rules.proofs.Keeping.{Keeps, keeps_is, keeps_never, keeps_given, keeps_holds, keeps_such, keeps_asks, keeps_makes, keeps_bind, keeps_type}
 
 
 pub keeps_designated : (line : ℕ) (d : Designated) (type : CType) → Keeps (IsDesignated line d type)

@@ -1,15 +1,14 @@
 -- The rules on types allow exactly what the constraints say.
-use Rattle.std.proofs.Common.{◌≡◌, ℕ, Bool as Test, true, false, refl, Option, Some, None, Result, Ok, Err, inl, inr, ◌⊎◌, ◌↔◌, arith}
-use Rattle.std.specs.Prelude.{if◌then◌else◌, nat_le, IsTrue, IsFalse, ◌&&◌}
+use Rattle.std.proofs.Common.{◌≡◌, ℕ, Bool as Test, true, false, refl, Ok, Err, ◌↔◌, arith}
+use Rattle.std.specs.Prelude.{if◌then◌else◌, nat_le, IsTrue}
 use Rattle.srmt_base.specs.declared.ty.Ty.{Ty}
 use Rattle.srmt_base.specs.declared.op.Op.{Op}
 use Rattle.srmt_base.specs.declared.op.Op.TheVariants as o
 use Rattle.c_types.specs.declared.form.BinaryForm.{BinaryForm}
-use Rattle.c_types.specs.declared.form.BinaryForm.TheVariants as form
 use Rattle.c_types.specs.declared.form.ChoiceForm.{ChoiceForm}
 use Rattle.c_types.specs.declared.form.Conversion.{Conversion}
-use Rattle.c_types.specs.Types.{CType, Qualified, void, integer, pointer, array, returning, taking, is_integer, is_pointer, is_complete_pointer, is_scalar}
-use Rattle.c_types.specs.Rules.{Ruled, Operand, refused, beside, unary_type, tested_type, arithmetic_form, shift_form, step_form, sum_form, difference_form, relation_form, equality_form, binary_form, compound_form, update_form, conversion_form, assignment_form, branches_form, choice_form, indirection_type, index_form, callee_type, cast_type, sizeof_type}
+use Rattle.c_types.specs.Types.{CType, Qualified, is_integer, is_scalar}
+use Rattle.c_types.specs.Rules.{Ruled, Operand, beside, unary_type, tested_type, arithmetic_form, shift_form, step_form, sum_form, difference_form, relation_form, equality_form, binary_form, compound_form, update_form, conversion_form, assignment_form, branches_form, choice_form, indirection_type, index_form, callee_type, cast_type, sizeof_type}
 use Rattle.typing_rules.specs.Constraints.{Promotes, IsTested, Combines, Shifts, Steps, Adds, Subtracts, Relates, Equates, Operates, Changes, Updates, Converts, Assigns, Branches, Chooses, PointsTo, Indexes, Calls, CastsTo, HasSize}
 
 -- a null pointer constant is an integer

@@ -1,5 +1,5 @@
 -- What the view of a syntax tree is, a constructor at a time.
-use Rattle.std.proofs.Common.{◌≡◌, ℕ, List, [], ◌∷◌, map, Option, Some, None, refl, ap, sym, ◌∙◌}
+use Rattle.std.proofs.Common.{◌≡◌, ℕ, List, map, Option, Some, None, ap, sym, ◌∙◌}
 use Rattle.std.specs.Prelude.{option_map}
 use Rattle.srmt_base.specs.declared.ty.Ty.{Ty}
 use Rattle.c_tree.specs.declared.operator.BinaryOp.{BinaryOp}
@@ -11,7 +11,6 @@ use Rattle.c_tree.specs.declared.expression.Direct.{Direct-F}
 use Rattle.c_tree.specs.declared.expression.Direct.TheVariants as d
 use Rattle.c_tree.specs.declared.name.Name as tree_name
 use Rattle.c_tree.specs.declared.specifier.Specifier.{Specifier}
-use Rattle.c_tree.specs.declared.specifier.Pointer.{Pointer}
 use Rattle.c_tree.specs.declared.expression.ExprNode as tree_node
 use Rattle.c_tree.specs.declared.expression.ExprNode.{ExprNode-F}
 use Rattle.c_tree.specs.declared.expression.ExprNode.TheVariants as e

@@ -1,6 +1,5 @@
 -- Statements: the ordered function and the relation are one.
-use Rattle.std.proofs.Common.{◌≡◌, ℕ, Bool as Test, true, false, Option, Some, None, Ok, Err, inl, inr, ◌⊎◌, ◌↔◌, refl, arith}
-use Rattle.std.specs.Prelude.{IsTrue, IsFalse}
+use Rattle.std.proofs.Common.{ℕ, Bool as Test, true, Option, Some, None}
 use Rattle.c_types.specs.Types.{CType, is_void}
 use Rattle.typing_rules.specs.declared.refusal.TypeRefusal.TheVariants.{Mismatch}
 use Rattle.typing_rules.specs.Source.{Expr}

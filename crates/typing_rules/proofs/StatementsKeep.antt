@@ -1,12 +1,10 @@
 -- Statements keep that the contents of objects fit.
-use Rattle.std.proofs.Common.{◌≡◌, ℕ, Bool as Test, true, false, Option, Some, None, Ok, Err, inl, inr, ◌⊎◌, ◌↔◌, refl, arith}
-use Rattle.std.specs.Prelude.{IsTrue, IsFalse}
-use Rattle.c_types.specs.Types.{CType, is_void}
+use Rattle.std.proofs.Common.{ℕ, Bool as Test, true, Option, Some, None, refl}
+use Rattle.c_types.specs.Types.{CType}
 use Rattle.typing_rules.specs.Source.{Expr}
 use Rattle.typing_rules.specs.SourceUnits.{ForStart, starts, declares, Stmt, block, empty, expression, if_only, if_else, while, do_while, for, continue, break, return, Items, no_items, declaration, statement}
-use Rattle.typing_rules.specs.Terms.{operand_of, written_type}
 use Rattle.typing_rules.specs.TypingStatements.{IsCondition, IsConditionIf, IsValueIf, IsReturned, IsForStart, IsForEnd, IsStmt, AreItems}
-use Rattle.typing_rules.proofs.Keeping.{Keeps, keeps_is, keeps_never, keeps_given, keeps_holds, keeps_such, keeps_asks, keeps_makes, keeps_bind, keeps_such_then, keeps_either, keeps_type, keeps_first, keeps_entity, keeps_definition}
+use Rattle.typing_rules.proofs.Keeping.{Keeps, keeps_is, keeps_given, keeps_such, keeps_makes, keeps_bind}
 use Rattle.typing_rules.proofs.DeclarationsKeep.{keeps_value, keeps_declared_in_block}
 
 keeps_condition : (line : ℕ) (e : Expr) → Keeps (IsCondition e)

@@ -1,19 +1,15 @@
 -- Expressions keep that the contents of objects fit.
-use Rattle.std.proofs.Common.{◌≡◌, ℕ, Bool as Test, true, false, List, [], ◌∷◌, Option, Some, None}
+use Rattle.std.proofs.Common.{ℕ, true, false}
 use Rattle.srmt_base.specs.declared.op.Op.TheVariants.{Add, Sub}
-use Rattle.c_types.specs.Types.{Qualified}
 use Rattle.c_tree.specs.declared.operator.PrefixOp.TheVariants as pre
 use Rattle.c_tree.specs.declared.operator.PostfixOp.TheVariants as post
-use Rattle.c_typed.specs.Typed.{type_of}
-use Rattle.c_typed.specs.Constants.{constant_of}
 use Rattle.typing_rules.specs.Source.{Expr, at, name, number, character, text, parenthesized, index, call, prefix, postfix, sizeof_expr, sizeof_type, cast, binary, conjunction, disjunction, choice, assignment, compound, comma, Exprs, no_exprs, first_expr, TypeName, type_name, Declarator, declarator, Parts, no_parts, pointer_part, array_part, unsized_part, function_part, Parameters, no_parameters, first_parameter, line_of}
-use Rattle.typing_rules.specs.Terms.{Term, Written, one_value, Change}
+use Rattle.typing_rules.specs.Terms.{Term, one_value, Change, change_by}
 use Rattle.typing_rules.specs.DeclaratorRules.{Lines, lines_of}
 use Rattle.typing_rules.specs.Holding.{Typing}
 use Rattle.typing_rules.specs.Typing.{IsStepped, IsTerm, AreAll, IsTypeNamed, AreDerivations, AreParts, AreParameters}
-use Rattle.typing_rules.proofs.Keeping.{Keeps, keeps_is, keeps_never, keeps_given, keeps_holds, keeps_such, keeps_asks, keeps_makes, keeps_bind, keeps_such_then, keeps_either, keeps_type, keeps_first, keeps_entity, keeps_definition}
-use Rattle.typing_rules.specs.Ordered.{change_by}
-use Rattle.typing_rules.proofs.PartsKeep.{keeps_valued, keeps_written, keeps_named, keeps_text, keeps_indexed, keeps_indirect, keeps_address, keeps_opposite, keeps_promoted, keeps_negative, keeps_complemented, keeps_computed, keeps_conjoined, keeps_disjoined, keeps_chosen, keeps_target, keeps_assigned, keeps_changed, keeps_cast, keeps_unvalued, keeps_sized, keeps_called, keeps_call}
+use Rattle.typing_rules.proofs.Keeping.{Keeps, keeps_is, keeps_such, keeps_bind}
+use Rattle.typing_rules.proofs.PartsKeep.{keeps_written, keeps_named, keeps_text, keeps_indexed, keeps_indirect, keeps_address, keeps_opposite, keeps_promoted, keeps_negative, keeps_complemented, keeps_computed, keeps_conjoined, keeps_disjoined, keeps_chosen, keeps_target, keeps_assigned, keeps_changed, keeps_cast, keeps_unvalued, keeps_sized, keeps_called, keeps_call}
 use Rattle.typing_rules.proofs.DeclaratorsKeep.{keeps_specified, keeps_parameter, keeps_parameter_list}
 
 keeps_stepped : (line : ℕ) (c : Change) {S : Typing Term} → Keeps S → Keeps (IsStepped line c S)

@@ -1,26 +1,19 @@
 -- Files keep that the contents of objects fit.
-use Rattle.std.proofs.Common.{◌≡◌, ℕ, suc, Bool as Test, true, false, not, List, [], ◌∷◌, length, refl, ap, sym, ◌∙◌, Option, Some, None, Result, Ok, Err, inl, inr, ◌⊎◌, ◌↔◌, arith}
-use Rattle.std.specs.Prelude.{IsTrue, IsFalse, ◌&&◌}
-use Rattle.c_types.specs.Types.{Qualified, is_void, is_function, is_complete, same_type, cells_of, result_of}
-use Rattle.c_typed.specs.Statements as t
+use Rattle.std.proofs.Common.{ℕ, true, false, List, [], ◌∷◌, refl, Option, Some, None}
+use Rattle.c_types.specs.Types.{Qualified, result_of}
 use Rattle.typing_rules.specs.Source.{Named}
-use Rattle.typing_rules.specs.SourceUnits.{Initial, Item, Declaration, Definition, External, function, declaration_of, Unit as SourceUnit}
+use Rattle.typing_rules.specs.SourceUnits.{Initial, Item, Definition, function, declaration_of, Unit as SourceUnit}
 use Rattle.typing_rules.specs.Known as known
 use Rattle.typing_rules.specs.Known.{Known, Linked, Meaning, Predeclared, found_in, predeclared_scope, type_of_predeclared}
-use Rattle.typing_rules.specs.Limits.{most_functions}
 use Rattle.typing_rules.specs.SpecifierRules.{Storage}
-use Rattle.typing_rules.specs.DeclaratorRules.{lines_of, name_of}
-use Rattle.typing_rules.specs.DeclarationRules.{Defining, tentatively, fully}
-use Rattle.typing_rules.specs.UnitRules.{own_parameters, unresolved, nothing_known, no_file}
-use Rattle.typing_rules.specs.Holding.{Holds}
-use Rattle.typing_rules.specs.OrderedDeclarations.{or_no_name}
-use Rattle.typing_rules.specs.TypingUnits.{IsDefined, AreCountedIf, IsDefinedTentatively, IsDefinedWith, IsObjectDefined, IsDeclaredAtFile, IsDeclaredAgain, IsDeclaredAs, IsItemAtFile, AreItemsAtFile, IsFunctionBegun, IsFunctionDefined, AreExternals, IsFile, IsBinary, IsProgram, Types}
-use Rattle.typing_rules.proofs.Keeping.{Keeps, keeps_is, keeps_never, keeps_given, keeps_holds, keeps_such, keeps_asks, keeps_makes, keeps_bind, keeps_such_then, keeps_either, keeps_type, keeps_first, keeps_entity, keeps_definition}
-use Rattle.typing_rules.specs.OrderedUnits.{is_extern}
-use Rattle.typing_rules.proofs.PartsKeep.{keeps_counted, keeps_counted_type}
+use Rattle.typing_rules.specs.DeclaratorRules.{lines_of, name_of, or_no_name}
+use Rattle.typing_rules.specs.DeclarationRules.{tentatively, fully}
+use Rattle.typing_rules.specs.TypingUnits.{IsDefinedTentatively, IsObjectDefined, IsDeclaredAtFile, IsDeclaredAs, IsItemAtFile, AreItemsAtFile, IsFunctionBegun, IsFunctionDefined, AreExternals, IsFile, IsBinary}
+use Rattle.typing_rules.proofs.Keeping.{Keeps, keeps_is, keeps_never, keeps_given, keeps_holds, keeps_such, keeps_asks, keeps_makes, keeps_bind, keeps_such_then, keeps_either}
+use Rattle.typing_rules.proofs.PartsKeep.{keeps_counted_type}
 use Rattle.typing_rules.proofs.DeclaratorsKeep.{keeps_specified}
 use Rattle.typing_rules.proofs.TermsKeep.{keeps_derivations}
-use Rattle.typing_rules.proofs.DeclarationsKeep.{keeps_links, keeps_no_initial, keeps_initialized}
+use Rattle.typing_rules.proofs.DeclarationsKeep.{keeps_links, keeps_no_initial}
 use Rattle.typing_rules.proofs.StatementsKeep.{keeps_items}
 use Rattle.typing_rules.proofs.ContentsKeep.{IsWhole, derived_whole, says_whole, keeps_defines, keeps_counted_if, keeps_defined_with}
 

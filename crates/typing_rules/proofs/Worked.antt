@@ -1,12 +1,9 @@
 -- Worked examples: sources, as trees, and what the ordered function answers.
-use Rattle.std.proofs.Common.{◌≡◌, ℕ, Bool as Test, true, false, List, [], ◌∷◌, Option, Some, None, Result, Ok, Err, refl}
-use Rattle.std.specs.Prelude.{bytes_eq, slice_get, slice_set}
+use Rattle.std.proofs.Common.{◌≡◌, ℕ, Bool as Test, true, false, List, [], ◌∷◌, Some, None, Result, Ok, Err, refl}
 use Rattle.srmt_base.specs.declared.ty.Ty.TheVariants as ty
 use Rattle.srmt_base.specs.declared.op.Op.TheVariants as o
 use Rattle.c_types.specs.Types.{same_type, plain, integer, returning}
 use Rattle.c_tree.specs.declared.specifier.SpecifierWord.TheVariants as w
-use Rattle.c_tree.specs.declared.operator.PrefixOp.TheVariants as pre
-use Rattle.c_tree.specs.declared.operator.PostfixOp.TheVariants as post
 use Rattle.c_typed.specs.Constants.{constant_of}
 use Rattle.c_typed.specs.Starts.{start_of}
 use Rattle.c_typed.specs.declared.program.Numbered.TheVariants as numbered
@@ -15,9 +12,8 @@ use Rattle.c_typed.specs.Statements as t
 use Rattle.c_typed.specs.Statements.{Program, Function}
 use Rattle.typing_rules.specs.declared.refusal.TypeRefusal.{TypeRefusal}
 use Rattle.typing_rules.specs.declared.refusal.TypeRefusal.TheVariants as r
-use Rattle.typing_rules.specs.declared.refusal.Size.TheVariants as size
-use Rattle.typing_rules.specs.Source.{Expr, at, name, number, character, text, parenthesized, index, call, prefix, postfix, sizeof_expr, sizeof_type, cast, binary, conjunction, disjunction, choice, assignment, compound, comma, no_exprs, first_expr, type_name, declarator, no_parts, pointer_part, array_part, unsized_part, function_part, no_parameters, first_parameter, Parameters}
-use Rattle.typing_rules.specs.SourceUnits.{single, braced, no_initials, first_initial, starts, declares, block, empty, expression, if_only, if_else, while, do_while, for, continue, break, return, no_items, declaration, statement, function, declaration_of, Items, External, Unit as SourceUnit}
+use Rattle.typing_rules.specs.Source.{at, name, number, call, binary, assignment, no_exprs, first_expr, declarator, no_parts, pointer_part, array_part, function_part, no_parameters, first_parameter, Parameters}
+use Rattle.typing_rules.specs.SourceUnits.{single, braced, no_initials, first_initial, expression, return, no_items, declaration, statement, function, declaration_of, Items, External, Unit as SourceUnit}
 use Rattle.typing_rules.specs.Ordered.{term_of}
 use Rattle.typing_rules.specs.OrderedDeclarations.{insides, cells_given}
 use Rattle.typing_rules.specs.OrderedStatements.{stmt_of}

@@ -10,8 +10,7 @@ use Rattle.typing_rules.specs.Known as known
 use Rattle.typing_rules.specs.Known.{Known, Meaning, Local, innermost, found_in}
 use Rattle.typing_rules.specs.Limits.{most_parameters, most_cells}
 use Rattle.typing_rules.specs.SpecifierRules.{Specified, storage_fits, storage_in, qualifiers_in, named_by, namings}
-use Rattle.typing_rules.specs.DeclaratorRules.{Derivation, to_pointer, to_array, to_function, name_of, is_empty_list, fits_cells, parameter_type}
-use Rattle.typing_rules.specs.OrderedParts.{parameter_local}
+use Rattle.typing_rules.specs.DeclaratorRules.{Derivation, to_pointer, to_array, to_function, name_of, is_empty_list, fits_cells, parameter_type, parameter_local}
 use Rattle.typing_rules.specs.Holding.{Typing, ◌>>=◌, ◌>>◌, Is, Such, Holds, Asks, Makes, Either}
 
 -- specifiers name one type, and have storage words only where these may stand (C11 6.7.1p2, 6.7.2p2)

@@ -2,7 +2,7 @@
 use Rattle.std.specs.Prelude.{ℕ, ◌<◌, List, [], ◌∷◌}
 use Rattle.c_types.specs.Types.{cells_of}
 use Rattle.c_typed.specs.declared.program.StartCell.{StartCell}
-use Rattle.c_typed.specs.Statements.{Static, TypedFile, Program}
+use Rattle.c_typed.specs.Statements.{TypedFile, Program}
 
 -- each element of a list is such
 abbrev pub Each : {A : Type 0} → (A → Type 0) → List A → Type 0
