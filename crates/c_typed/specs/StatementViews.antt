@@ -85,7 +85,17 @@ module _ (types : TypeRef → CType) where
 
   unfoldable pub function_view : CodeFunction → Function
   function_view f =
-      record { entity = f.entity; line = f.line; type = types f.ty; parameters = f.parameters; locals = map row_view f.locals; begin = (block_view f.body).line; body = (block_view f.body).items; end = (block_view f.body).end }
+      record {
+        entity = f.entity;
+        line = f.line;
+        type = types f.ty;
+        parameters = f.parameters;
+        locals = map row_view f.locals;
+        begin =
+            (block_view f.body).line;
+        body = (block_view f.body).items;
+        end = (block_view f.body).end;
+      }
 
   abbrev pub static_view : CodeStatic → Static
   static_view s = record { entity = s.entity; line = s.line; type = qualified_from types s.ty; cells = s.cells }
@@ -96,4 +106,9 @@ module _ (types : TypeRef → CType) where
 -- a program, whose references stand for the types of its table
 unfoldable pub program_view : TypedProgram → Program
 program_view p =
-    record { main_file = file_view (type_at p.types) p.main_file; binary_file = file_view (type_at p.types) p.binary_file; entities = p.entities; main = p.main }
+    record {
+      main_file = file_view (type_at p.types) p.main_file;
+      binary_file = file_view (type_at p.types) p.binary_file;
+      entities = p.entities;
+      main = p.main;
+    }

@@ -26,9 +26,10 @@ statics_fit file entities (f ∷ rest) fit =
 
 file_fits : (unit : SourceUnit) (file : t.TypedFile) (k l : Known) → IsFile unit file k l → AreFit k.entities → StaticsFit file × AreFit l.entities
 file_fits unit file k l h fit =
-    let after = (keeps_externals unit).kept h.of k h.between h.first fit in
-    (subst StaticsFit (sym h.second.0) (statics_fit h.between.file h.between.entities h.between.declared after),
-      subst (λ m. AreFit m.entities) (sym h.second.1) after)
+    let after = (keeps_externals unit).kept h.of k h.between h.first fit in (
+      subst StaticsFit (sym h.second.0) (statics_fit h.between.file h.between.entities h.between.declared after),
+      subst (λ m. AreFit m.entities) (sym h.second.1) after,
+    )
 
 binary_fits : (binary : Option SourceUnit) (file : t.TypedFile) (k l : Known) → IsBinary binary file k l → AreFit k.entities → StaticsFit file
 binary_fits None file k l h fit = subst StaticsFit (sym h.0) tt

@@ -41,8 +41,11 @@ between_more low high low' high' (c ∷ rest) l h b = ((omega (arith, b.0), omeg
 
 bytes_between : (line : ℕ) (t : Ty) (n : ℕ) (bytes : Bytes) → Between n (n + length bytes) (byte_cells line t n bytes)
 bytes_between line t n [] = tt
-bytes_between line t n (byte ∷ rest) =
-    ((omega arith, omega arith), between_more (suc n) (suc n + length rest) n (n + suc (length rest)) _ (omega arith) (omega arith) (bytes_between line t (suc n) rest))
+bytes_between line t n (byte ∷ rest) = (
+  (omega arith, omega arith),
+  between_more (suc n) (suc n + length rest) n (n + suc (length rest)) _ (omega arith) (omega arith)
+      (bytes_between line t (suc n) rest),
+)
 
 cells_of_one : (t : Ty) → cells_of_integer t ≡ 1
 cells_of_one ty.Bool = refl
@@ -73,7 +76,8 @@ derives_whole is_adjusted (to_function ps) t u w h = subst (λ v. IsWhole v.type
     function_whole [] t = tt
     function_whole (p ∷ ps) t = tt
 
-pub derived_whole : (is_adjusted : Test) (base : Qualified) (ds : List Derivation) (u : Qualified) → IsWhole base.type → IsDerived is_adjusted base ds u → IsWhole u.type
+pub derived_whole : (is_adjusted : Test) (base : Qualified) (ds : List Derivation) (u : Qualified) → IsWhole base.type → IsDerived is_adjusted base
+    ds u → IsWhole u.type
 derived_whole is_adjusted base [] u w h = subst (λ v. IsWhole v.type) (sym h) w
 derived_whole is_adjusted base (d ∷ ds) u w h = derives_whole is_adjusted d h.0 u (derived_whole false base ds h.0 w h.1) h.2
 
@@ -86,7 +90,8 @@ named_whole words (n ∷ rest) t each e = go (name_alike n.words words) (named_w
     go false others p = others p
 
 pub says_whole : (may_store : Test) (words : List SpecifierWord) (s : Specified) → Says may_store words s → IsWhole s.type.type
-says_whole may_store words s h = subst (λ v. IsWhole v.type.type) (sym h.1.2) (named_whole words namings h.1.0 (tt, (tt, (tt, (tt, (tt, (tt, (tt, (tt, (tt, (tt, (tt, (tt, (tt, (tt, (tt, (tt, tt)))))))))))))))) h.1.1)
+says_whole may_store words s h = subst (λ v. IsWhole v.type.type) (sym h.1.2)
+    (named_whole words namings h.1.0 (tt, (tt, (tt, (tt, (tt, (tt, (tt, (tt, (tt, (tt, (tt, (tt, (tt, (tt, (tt, (tt, tt)))))))))))))))) h.1.1)
 
 completed_alike : (t : CType) (x : Initial) → IsTrue (is_complete t) → completed t x ≡ t
 completed_alike void x c = refl
@@ -117,7 +122,8 @@ text_length_fits n bytes h = go (nat_le n (length bytes)) refl
     go false e = rw (length-append bytes (0 ∷ [])) (past n (length bytes) e)
 
 text_between : (t : Ty) (n : Option ℕ) (index : ℕ) (e : Expr) (x : Option TextAt) (q : Qualifiers) (given : List Cell) (k l : Known)
-    → text_for (integer t) e ≡ x → IsTextGiven (integer t) n index x given k l → Between index (index + cells_of (completed (array q (integer t) n) (single e))) given
+    → text_for (integer t) e ≡ x → IsTextGiven (integer t) n index x given k l → Between index
+    (index + cells_of (completed (array q (integer t) n) (single e))) given
 text_between t n index e None q given k l p h = absurd h
 text_between t None index e (Some x) q given k l p h =
     rw (p, h.second.0, cells_of_one t) (between_more index (index + length (x.bytes ++ 0 ∷ [])) index (index + suc (length x.bytes) * 1) _ (omega arith)
@@ -156,7 +162,8 @@ both_between : (is_static : Test) (t : CType) (index cells high : ℕ) (x : Init
     → completed t x ≡ t → index + cells_of t ≤ high → given ≡ first ++ others
     → Between index (index + cells_of (completed t x)) first → Between (index + cells_of t) high others → Between index high given
 both_between is_static t index cells high x first others given c r e f o =
-    rw e (each_append _ first others (between_more index (index + cells_of t) index high first (omega arith) r (rw c at f)) (between_more (index + cells_of t) high index high others (omega arith) (omega arith) o))
+    rw e (each_append _ first others (between_more index (index + cells_of t) index high first (omega arith) r (rw c at f))
+    (between_more (index + cells_of t) high index high others (omega arith) (omega arith) o))
 
 mutual
   unfolding AreCellsGiven Room
@@ -178,16 +185,23 @@ mutual
       → IsTrue (is_complete t) × IsWhole t → Room n i (cells_of t) index xs high → AreItemsGiven is_static t n i index xs given k l → Between index high given
   items_between is_static t n i index no_initials high given k l w r h = rw h.0 tt
   items_between is_static t None i index (first_initial x rest) high given k l w r h =
-      elim h [ inl p ↦ absurd p.1 | inr p ↦
-        both_between is_static t index (cells_of t) high x p.1.of p.1.second.of given (completed_alike t x w.0) (omega arith) p.1.second.second.0
-        (given_between is_static t index x p.1.of k p.1.between w.1 p.1.first)
-        (items_between is_static t None (suc i) (index + cells_of t) rest high p.1.second.of p.1.between p.1.second.between w (omega arith) p.1.second.first) ]
+      elim h [
+        | inl p ↦ absurd p.1
+        | inr p ↦
+            both_between is_static t index (cells_of t) high x p.1.of p.1.second.of given (completed_alike t x w.0) (omega arith) p.1.second.second.0
+            (given_between is_static t index x p.1.of k p.1.between w.1 p.1.first)
+            (items_between is_static t None (suc i) (index + cells_of t) rest high p.1.second.of p.1.between p.1.second.between w (omega arith) p.1.second.first)
+      ]
   items_between is_static t (Some n) i index (first_initial x rest) high given k l w r h =
-      elim h [ inl p ↦ absurd p.1 | inr p ↦
-        let s = less_room n i (cells_of t) index high r.0 r.1 r.2 (past n i p.0) in
-        both_between is_static t index (cells_of t) high x p.1.of p.1.second.of given (completed_alike t x w.0) s.3 p.1.second.second.0
-        (given_between is_static t index x p.1.of k p.1.between w.1 p.1.first)
-        (items_between is_static t (Some n) (suc i) (index + cells_of t) rest high p.1.second.of p.1.between p.1.second.between w (s.0, s.1, s.2) p.1.second.first) ]
+      elim h [
+        | inl p ↦ absurd p.1
+        | inr p ↦
+            let s = less_room n i (cells_of t) index high r.0 r.1 r.2 (past n i p.0) in
+            both_between is_static t index (cells_of t) high x p.1.of p.1.second.of given (completed_alike t x w.0) s.3 p.1.second.second.0
+            (given_between is_static t index x p.1.of k p.1.between w.1 p.1.first)
+            (items_between is_static t (Some n) (suc i) (index + cells_of t) rest high p.1.second.of p.1.between p.1.second.between w (s.0, s.1, s.2)
+            p.1.second.first)
+      ]
 
 -- ---- contents
 
@@ -204,7 +218,8 @@ keeps_counted_if test line type = keeps_either (keeps_counted line (cells_of typ
 all_three : (a b c : Test) → IsTrue (a && b && c) → IsTrue b × IsTrue c
 all_three a b c h = grind arith
 
-same_lengths : (n m : Option ℕ) (a b : CType) (q r : Qualifiers) → IsTrue (same_length n m) → cells_of a ≡ cells_of b → cells_of (array q a n) ≡ cells_of (array r b m)
+same_lengths : (n m : Option ℕ) (a b : CType) (q r : Qualifiers) → IsTrue (same_length n m) → cells_of a ≡ cells_of b → cells_of (array q a n) ≡
+    cells_of (array r b m)
 same_lengths None None a b q r h e = refl
 same_lengths None (Some m) a b q r h e = absurd cc
 same_lengths (Some n) None a b q r h e = absurd cc
@@ -246,7 +261,8 @@ second_holds a c d h = grind arith
 
 -- what an initializer gives an entity fits the type that it completes
 contents_fit : (type e : Qualified) (x : Initial) (done : Initialized) (k l : Known)
-    → IsWhole type.type → IsInitialized true type x done k l → IsTrue (are_for_one done.type.type e.type) → AreWithin (cells_of (composite e.type done.type.type)) (starts_of done.given)
+    → IsWhole type.type → IsInitialized true type x done k l → IsTrue (are_for_one done.type.type e.type) → AreWithin
+    (cells_of (composite e.type done.type.type)) (starts_of done.given)
 contents_fit type e x done k l w h a =
     let e = h.second.second.0 in
     rw e (within_more (cells_of (completed type.type x)) _ (starts_of h.of) (agreed_cells _ _ (rw e at a))
@@ -261,13 +277,16 @@ with_contents_fit name l done k m after fit same within e = rw (e, same) (each_s
 
 pub keeps_defined_with : (name : Named) (l : Linked) (type : Qualified) (x : Initial) → IsWhole type.type → Keeps (IsDefinedWith name l type x)
 keeps_defined_with name l type x w = record {
-    kept = λ u k m h fit.
-        let counted = h.second in
-        let made = counted.second in
-        let agrees = made.second in
-        let more = agrees.second in
-        let before = (keeps_counted_if _ name.line l.type).kept _ h.between counted.between counted.first ((keeps_defines fully name.line l.entity).kept _ k h.between h.first fit) in
-        let after = (keeps_initialized true name.line type x).kept made.of counted.between made.between made.first before in
-        let still = counted_same _ made.of.type more.of agrees.between more.between more.first ∙ ap (λ s. s.entities) agrees.first.1 in
-        with_contents_fit name l made.of made.between more.between m after still
-        (contents_fit type (entity_at made.between.entities l.entity).type x made.of counted.between made.between w made.first (second_holds _ _ _ agrees.first.0)) more.second }
+  kept = λ u k m h fit.
+      let counted = h.second in
+      let made = counted.second in
+      let agrees = made.second in
+      let more = agrees.second in
+      let before = (keeps_counted_if _ name.line l.type).kept _ h.between counted.between counted.first
+      ((keeps_defines fully name.line l.entity).kept _ k h.between h.first fit) in
+      let after = (keeps_initialized true name.line type x).kept made.of counted.between made.between made.first before in
+      let still = counted_same _ made.of.type more.of agrees.between more.between more.first ∙ ap (λ s. s.entities) agrees.first.1 in
+      with_contents_fit name l made.of made.between more.between m after still
+      (contents_fit type (entity_at made.between.entities l.entity).type x made.of counted.between made.between w made.first
+      (second_holds _ _ _ agrees.first.0)) more.second;
+}

@@ -48,7 +48,8 @@ exact_value e = exact_written (line_of e) (exact_term e)
 is_start : (is_static : Test) (start : Option Start) → IsTrue (not is_static || is_some start) ↔ IsStart is_static start
 is_start is_static start = grind arith
 
-exact_scalar : (is_static : Test) (at : ℕ) (type : CType) (index : ℕ) (e : Expr) → Exact (scalar_cells is_static at type index e) (IsScalar is_static type index e)
+exact_scalar : (is_static : Test) (at : ℕ) (type : CType) (index : ℕ) (e : Expr) → Exact (scalar_cells is_static at type index e)
+    (IsScalar is_static type index e)
 exact_scalar is_static at type index e =
     exact_bind (exact_value e) (λ a.
     exact_bind (exact_ruled at _ _ (λ f. conversion_allows type (operand_of a.value) f (null_is_integer a.value))) (λ form.
@@ -59,7 +60,8 @@ exact_text_given : (at : ℕ) (element : CType) (n : Option ℕ) (index : ℕ) (
 exact_text_given at element n index e None = exact_refused (insides (single e)) (Mismatch at 16)
 exact_text_given at element n index e (Some t) = exact_bind (exact_needs _ _ (Mismatch at 16) (itself (text_fits n t.bytes))) (λ u. exact_pure _)
 
-exact_single : (is_static : Test) (at : ℕ) (type : CType) (index : ℕ) (e : Expr) → Exact (single_cells is_static at type index e) (AreSingleCells is_static type index e)
+exact_single : (is_static : Test) (at : ℕ) (type : CType) (index : ℕ) (e : Expr) → Exact (single_cells is_static at type index e)
+    (AreSingleCells is_static type index e)
 exact_single is_static at (array q t n) index e = exact_text_given at t n index e (text_for t e)
 exact_single is_static at (returning q t) index e = exact_refused (insides (single e)) (Mismatch at 16)
 exact_single is_static at (taking p t) index e = exact_refused (insides (single e)) (Mismatch at 16)
@@ -85,7 +87,8 @@ mutual
   exact_items is_static at t n i index no_initials = exact_pure _
   exact_items is_static at t n i index (first_initial x rest) =
       exact_choose (is_past n i) (exact_refused (insides x) (Mismatch at 16))
-      (exact_bind (exact_cells is_static at t index x) (λ first. exact_bind (exact_items is_static at t n (suc i) (index + cells_of t) rest) (λ others. exact_pure _)))
+      (exact_bind (exact_cells is_static at t index x) (λ first. exact_bind (exact_items is_static at t n (suc i) (index + cells_of t) rest)
+      (λ others. exact_pure _)))
 
 pub exact_initialized : (is_static : Test) (at : ℕ) (type : Qualified) (x : Initial) → Exact (initialized is_static at type x) (IsInitialized is_static type x)
 exact_initialized is_static at type x =
@@ -124,7 +127,8 @@ exact_local_initialized at n type (Some x) =
 is_complete_by : (x : Option Initial) (test : Test) → IsTrue (is_some x || test) ↔ (IsSome x ⊎ IsTrue test)
 is_complete_by x test = grind arith
 
-exact_object_in_block : (name : Named) (first : ℕ) (type : Qualified) (x : Option Initial) → Exact (object_in_block name first type x) (IsObjectInBlock name first type x)
+exact_object_in_block : (name : Named) (first : ℕ) (type : Qualified) (x : Option Initial) → Exact (object_in_block name first type x)
+    (IsObjectInBlock name first type x)
 exact_object_in_block name first type x =
     exact_bind (exact_needs _ _ (Mismatch name.line 14) (opposite_of (is_void type.type))) (λ u.
     exact_bind (exact_needs _ _ (Mismatch name.line 15) (is_complete_by x (is_complete type.type))) (λ u'.

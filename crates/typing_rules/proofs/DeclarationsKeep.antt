@@ -93,7 +93,8 @@ keeps_object_in_block name first type x =
 keeps_item_in_block : (base : Qualified) (specifiers : ℕ) (x : Item) → Keeps (IsItemInBlock base x)
 keeps_item_in_block base specifiers x =
     keeps_bind (keeps_derivations (lines_of x.declarator specifiers) x.declarator) (λ ds. keeps_bind keeps_such (λ type.
-    keeps_either (keeps_function_in_block (or_no_name (name_of x.declarator)) type x.initial) (keeps_object_in_block (or_no_name (name_of x.declarator)) (first_of_declarator x.declarator) type x.initial)))
+    keeps_either (keeps_function_in_block (or_no_name (name_of x.declarator)) type x.initial)
+    (keeps_object_in_block (or_no_name (name_of x.declarator)) (first_of_declarator x.declarator) type x.initial)))
 
 keeps_items_in_block : (base : Qualified) (specifiers : ℕ) (xs : List Item) → Keeps (AreItemsInBlock base xs)
 keeps_items_in_block base specifiers [] = keeps_is
@@ -102,4 +103,3 @@ keeps_items_in_block base specifiers (x ∷ rest) =
 
 pub keeps_declared_in_block : (d : Declaration) → Keeps (IsDeclaredInBlock d)
 keeps_declared_in_block d = keeps_bind (keeps_specified false d.specifiers) (λ base. keeps_items_in_block base.type d.specifiers.line d.items)
-

@@ -23,7 +23,8 @@ use Rattle.typing_rules.specs.Declarators.{AreSpecified, DerivesType, IsDerived,
 use Rattle.typing_rules.proofs.Exactness.{exact_pure, exact_asks, exact_makes, exact_bind, exact_tests, exact_ruled, exact_choose, exact_from_result, allowed_same, refused_no_ok, some_same}
 
 specified_allows : (test : Test) (o : Option CType) (words : List SpecifierWord) (s : Specified)
-    → (Path (Ruled Specified) (if test then specified_as o words else Err 21) (Ok s)) ↔ (IsTrue test × ((t : CType) × (o ≡ Some t) × (s ≡ record { storage = storage_in words; type = record { qualifiers = qualifiers_in words; type = t } })))
+    → (Path (Ruled Specified) (if test then specified_as o words else Err 21) (Ok s)) ↔
+    (IsTrue test × ((t : CType) × (o ≡ Some t) × (s ≡ record { storage = storage_in words; type = record { qualifiers = qualifiers_in words; type = t } })))
 specified_allows true (Some t) words s = ((λ e. (refl, (t, refl, sym (allowed_same _ _ e)))), (λ q. ap Ok (rw (some_same t q.1.0 q.1.1) (sym q.1.2))))
 specified_allows true None words s = ((λ e. absurd cc), (λ q. absurd cc))
 specified_allows false o words s = ((λ e. absurd cc), (λ q. absurd (let p : IsTrue false = q.0 in cc)))
@@ -32,7 +33,8 @@ pub exact_specified : (may_store : Test) (s : Specifiers) → Exact (specified m
 exact_specified may_store s = exact_ruled s.line _ _ (specified_allows (storage_fits may_store s.words) (named_by s.words namings) s.words)
 
 pub length_allows : (t : CType) (c : Constant) (n : ℕ)
-    → (Path (Ruled ℕ) (if is_void t then Err 14 else if is_integer t then constant_length c else Err 15) (Ok n)) ↔ (IsTrue (is_integer t) × (c ≡ Number n) × (0 < n) × (n ≤ most_cells))
+    → (Path (Ruled ℕ) (if is_void t then Err 14 else if is_integer t then constant_length c else Err 15) (Ok n)) ↔
+    (IsTrue (is_integer t) × (c ≡ Number n) × (0 < n) × (n ≤ most_cells))
 length_allows t c n = grind (arith, leb_tells)
 
 derives_allows : (at : Lines) (is_adjusted : Test) (d : Derivation) (t u : Qualified) → (derived_by at is_adjusted d t ≡ Ok u) ↔ DerivesType is_adjusted d t u
@@ -47,7 +49,10 @@ derived_allows at is_adjusted base (d ∷ ds) u = go (derived at false base ds) 
   where
     go : (r : Result Qualified TypeRefusal) → derived at false base ds ≡ r → ((t : Qualified) → (derived at false base ds ≡ Ok t) ↔ IsDerived false base ds t)
         → (derived_from r at is_adjusted d ≡ Ok u) ↔ IsDerived is_adjusted base (d ∷ ds) u
-    go (Ok t) p h = ((λ e. (t, (h t).0 p, (derives_allows at is_adjusted d t u).0 e)), (λ q. rw (allowed_same t q.0 (sym p ∙ (h q.0).1 q.1)) ((derives_allows at is_adjusted d q.0 u).1 q.2)))
+    go (Ok t) p h = (
+      (λ e. (t, (h t).0 p, (derives_allows at is_adjusted d t u).0 e)),
+      (λ q. rw (allowed_same t q.0 (sym p ∙ (h q.0).1 q.1)) ((derives_allows at is_adjusted d q.0 u).1 q.2)),
+    )
     go (Err refusal) p h = ((λ e. absurd cc), (λ q. absurd (refused_no_ok refusal q.0 (sym p ∙ (h q.0).1 q.1))))
 
 parameter_allows : (at : Lines) (base : Qualified) (ds : List Derivation) (u : Qualified)
@@ -56,6 +61,7 @@ parameter_allows at base ds u = go (derived at true base ds) refl (derived_allow
   where
     adjusts : (t : Qualified) → (parameter_of at (Ok t) ≡ Ok u) ↔ (IsFalse (is_void t.type) × (u ≡ adjusted t))
     adjusts t = grind arith
+
     go : (r : Result Qualified TypeRefusal) → derived at true base ds ≡ r → ((t : Qualified) → (derived at true base ds ≡ Ok t) ↔ IsDerived true base ds t)
         → (parameter_of at r ≡ Ok u) ↔ IsParameterType base ds u
     go (Ok t) p h =

@@ -9,7 +9,6 @@ use Rattle.typing_rules.specs.Holding.{Typing}
 use Rattle.typing_rules.specs.Declarators.{AreSpecified, IsDeclared, IsNamedLocal, IsParameter, IsParameterList}
 use Rattle.typing_rules.proofs.Keeping.{Keeps, keeps_is, keeps_holds, keeps_such, keeps_asks, keeps_makes, keeps_bind, keeps_either}
 
-
 pub keeps_specified : (may_store : Test) (s : Specifiers) → Keeps (AreSpecified may_store s)
 keeps_specified may_store s = keeps_such
 
@@ -28,4 +27,3 @@ pub keeps_parameter_list : (ps : Parameters) {Each : Typing (Unit {0})} → Keep
 keeps_parameter_list ps h =
     keeps_either keeps_is (keeps_bind keeps_asks (λ before. keeps_bind (keeps_makes (λ k. refl)) (λ u. keeps_bind h (λ u'.
     keeps_bind keeps_asks (λ found. keeps_bind (keeps_makes (λ k. refl)) (λ u''. keeps_is))))))
-

@@ -94,11 +94,13 @@ exact_complemented line a = exact_bind (exact_ruled line _ _ (unary_allows (writ
 
 pub exact_computed : (line : ℕ) (op : Op) (at : ℕ) (a b : Written) → Exact (computed line op at a b) (IsComputed line op at a b)
 exact_computed line op at a b =
-    exact_bind (exact_ruled at _ _ (λ f. binary_allows op (operand_of a.value) (operand_of b.value) f (null_is_integer a.value) (null_is_integer b.value))) (λ form. exact_pure _)
+    exact_bind (exact_ruled at _ _ (λ f. binary_allows op (operand_of a.value) (operand_of b.value) f (null_is_integer a.value)
+    (null_is_integer b.value))) (λ form. exact_pure _)
 
 pub exact_tested : (at : ℕ) (a b : Written) → Exact (tested_both at a b) (AreTested a b)
 exact_tested at a b =
-    exact_bind (exact_ruled at _ _ (tested_allows (written_type a))) (λ u. exact_bind (exact_ruled at _ _ (tested_allows (written_type b))) (λ u'. exact_pure tt))
+    exact_bind (exact_ruled at _ _ (tested_allows (written_type a)))
+    (λ u. exact_bind (exact_ruled at _ _ (tested_allows (written_type b))) (λ u'. exact_pure tt))
 
 pub exact_conjoined : (line at : ℕ) (a b : Written) → Exact (conjoined line at a b) (IsConjunction line a b)
 exact_conjoined line at a b = exact_bind (exact_tested at a b) (λ u. exact_pure _)
@@ -108,7 +110,8 @@ exact_disjoined line at a b = exact_bind (exact_tested at a b) (λ u. exact_pure
 
 pub exact_chosen : (line at : ℕ) (test a b : Written) → Exact (chosen line at test a b) (IsChosen line test a b)
 exact_chosen line at test a b =
-    exact_bind (exact_ruled at _ _ (λ f. choice_allows (written_type test) (operand_of a.value) (operand_of b.value) f (null_is_integer a.value) (null_is_integer b.value))) (λ form. exact_pure _)
+    exact_bind (exact_ruled at _ _ (λ f. choice_allows (written_type test) (operand_of a.value) (operand_of b.value) f (null_is_integer a.value)
+    (null_is_integer b.value))) (λ form. exact_pure _)
 
 pub exact_target : (term : Term) → Exact (target_of term) (IsTarget term)
 exact_target (object p) = exact_pure _

@@ -12,7 +12,6 @@ use Rattle.typing_rules.specs.Holding.{Typing}
 use Rattle.typing_rules.specs.TypingParts.{IsDesignated, IsValue, IsWritten, IsMeant, IsNamed, AreCounted, IsText, IsIndexed, IsIndirect, IsMarked, IsAddress, IsOpposite, IsPromoted, IsNegative, IsComplement, IsComputed, AreTested, IsConjunction, IsDisjunction, IsChosen, IsTarget, IsAssigned, IsChanged, IsCast, IsUnvalued, IsSized, IsCalled, ArePassed, IsCounted, IsCallThrough, IsCall}
 use Rattle.typing_rules.proofs.Keeping.{Keeps, keeps_is, keeps_never, keeps_given, keeps_holds, keeps_such, keeps_asks, keeps_makes, keeps_bind, keeps_type}
 
-
 pub keeps_designated : (line : ℕ) (d : Designated) (type : CType) → Keeps (IsDesignated line d type)
 keeps_designated line (entity n true) type = keeps_never
 keeps_designated line (entity n false) type = keeps_is
@@ -144,4 +143,3 @@ keeps_call line at (result v) xs = keeps_call_through line at v xs
 keeps_call line at (designator first (entity n main) type) xs = keeps_bind (keeps_arguments at type xs) (λ vs. keeps_is)
 keeps_call line at (designator first (predeclared p) type) xs = keeps_bind (keeps_arguments at type xs) (λ vs. keeps_is)
 keeps_call line at (designator first (through v) type) xs = keeps_call_through line at v xs
-

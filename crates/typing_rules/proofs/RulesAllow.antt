@@ -24,7 +24,8 @@ beside_refuses rule (Err other) a e = go (nat_le other rule) e
     go true p = absurd cc
     go false p = absurd cc
 
-beside_allows : {A : Type 0} (test : Test) (rule : ℕ) (r : Ruled A) (P : A → Type 0) (a : A) → ((r ≡ Ok a) ↔ P a) → (beside test rule r ≡ Ok a) ↔ (IsTrue test × P a)
+beside_allows : {A : Type 0} (test : Test) (rule : ℕ) (r : Ruled A) (P : A → Type 0) (a : A) → ((r ≡ Ok a) ↔ P a) → (beside test rule r ≡ Ok a) ↔
+    (IsTrue test × P a)
 beside_allows true rule r P a h = ((λ e. (refl, h.0 e)), (λ q. h.1 q.1))
 beside_allows false rule r P a h = ((λ e. absurd (beside_refuses rule r a e)), (λ q. absurd (let p : IsTrue false = q.0 in cc)))
 
@@ -100,8 +101,10 @@ update_allows op may_change a b f = beside_allows may_change 7 (compound_form op
 pub conversion_allows : (target : CType) (from : Operand) (f : Conversion) → NullIsInteger from → (conversion_form target from ≡ Ok f) ↔ Converts target from f
 conversion_allows target from f n = grind arith
 
-pub assignment_allows : (may_change : Test) (target : CType) (from : Operand) (f : Conversion) → NullIsInteger from → (assignment_form may_change target from ≡ Ok f) ↔ Assigns may_change target from f
-assignment_allows may_change target from f n = beside_allows may_change 7 (conversion_form target from) (Converts target from) f (conversion_allows target from f n)
+pub assignment_allows : (may_change : Test) (target : CType) (from : Operand) (f : Conversion) → NullIsInteger from →
+    (assignment_form may_change target from ≡ Ok f) ↔ Assigns may_change target from f
+assignment_allows may_change target from f n = beside_allows may_change 7 (conversion_form target from) (Converts target from) f
+    (conversion_allows target from f n)
 
 pub branches_allow : (a b : Operand) (f : ChoiceForm) → NullIsInteger a → NullIsInteger b → (branches_form a b ≡ Ok f) ↔ Branches a b f
 branches_allow a b f na nb = grind arith

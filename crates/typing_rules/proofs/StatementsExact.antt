@@ -49,7 +49,8 @@ mutual
   exact_stmt result in_loop (if_only line e s) =
       exact_bind (exact_condition line e) (λ test. exact_bind (exact_stmt result in_loop s) (λ first. exact_pure _))
   exact_stmt result in_loop (if_else line e s u) =
-      exact_bind (exact_condition line e) (λ test. exact_bind (exact_stmt result in_loop s) (λ first. exact_bind (exact_stmt result in_loop u) (λ second. exact_pure _)))
+      exact_bind (exact_condition line e) (λ test. exact_bind (exact_stmt result in_loop s)
+      (λ first. exact_bind (exact_stmt result in_loop u) (λ second. exact_pure _)))
   exact_stmt result in_loop (while line e s) =
       exact_bind (exact_condition line e) (λ test. exact_bind (exact_stmt result true s) (λ body. exact_pure _))
   exact_stmt result in_loop (do_while line s e) =

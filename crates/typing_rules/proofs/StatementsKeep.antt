@@ -60,4 +60,3 @@ mutual
       keeps_bind (keeps_declared_in_block d) (λ locals. keeps_bind (keeps_items result in_loop rest) (λ others. keeps_is))
   keeps_items result in_loop (statement s rest) =
       keeps_bind (keeps_stmt result in_loop s) (λ first. keeps_bind (keeps_items result in_loop rest) (λ others. keeps_is))
-

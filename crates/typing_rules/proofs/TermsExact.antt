@@ -32,7 +32,8 @@ mutual
   exact_term (at line (index e op i)) =
       exact_bind (exact_written (line_of e) (exact_term e)) (λ a. exact_bind (exact_written (line_of i) (exact_term i)) (λ b. exact_indexed line op a b))
   exact_term (at line (call f op es)) =
-      exact_bind (exact_term f) (λ callee. exact_bind (exact_called callee) (λ function. exact_bind (exact_all es) (λ arguments. exact_call line op function arguments)))
+      exact_bind (exact_term f) (λ callee. exact_bind (exact_called callee)
+      (λ function. exact_bind (exact_all es) (λ arguments. exact_call line op function arguments)))
   exact_term (at line (prefix pre.Increment e)) = exact_stepped line (change_by false (line_of e) Add line) (exact_term e)
   exact_term (at line (prefix pre.Decrement e)) = exact_stepped line (change_by false (line_of e) Sub line) (exact_term e)
   exact_term (at line (prefix pre.AddressOf e)) = exact_bind (exact_term e) (exact_address line)

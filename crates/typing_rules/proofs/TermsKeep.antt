@@ -90,4 +90,3 @@ mutual
   keeps_parameters (first_parameter s d rest) =
       keeps_bind (keeps_specified false s) (λ base. keeps_bind (keeps_derivations (lines_of d s.line) d) (λ ds.
       keeps_bind (keeps_parameter s base.type d ds) (λ u. keeps_parameters rest)))
-

@@ -130,8 +130,9 @@ resolves_ok (Some line) u k l = ((λ e. absurd (err_no_ok (Unresolved line) (u, 
 -- no use is unresolved
 exact_resolves : Exact (asks (λ k. unresolved k.entities k.uses) >>= resolves) (Holds (λ k. unresolved k.entities k.uses ≡ None))
 exact_resolves = record {
-    found = λ u k l e. (resolves_ok (unresolved k.entities k.uses) u k l).0 e;
-    whole = λ u k l q. (resolves_ok (unresolved k.entities k.uses) u k l).1 q }
+  found = λ u k l e. (resolves_ok (unresolved k.entities k.uses) u k l).0 e;
+  whole = λ u k l q. (resolves_ok (unresolved k.entities k.uses) u k l).1 q;
+}
 
 exact_program : (main : SourceUnit) (binary : Option SourceUnit) → Exact (program_of main binary) (IsProgram main binary)
 exact_program main binary =
@@ -157,6 +158,7 @@ pub one_typing_of : (main : SourceUnit) (binary : Option SourceUnit) (p q : t.Pr
 one_typing_of main binary p q h k =
     allowed_same p q (sym ((typing_is_exact_of main binary p).1 h) ∙ (typing_is_exact_of main binary q).1 k)
 
-pub refused_has_no_typing : (main : SourceUnit) (binary : Option SourceUnit) (refusal : TypeRefusal) (p : t.Program) → checked main binary ≡ Err refusal → Types main binary p → ⊥
+pub refused_has_no_typing : (main : SourceUnit) (binary : Option SourceUnit) (refusal : TypeRefusal) (p : t.Program) → checked main binary ≡ Err
+    refusal → Types main binary p → ⊥
 refused_has_no_typing main binary refusal p e h =
     refused_no_ok refusal p (sym e ∙ (typing_is_exact_of main binary p).1 h)

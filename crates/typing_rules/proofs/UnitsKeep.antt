@@ -43,7 +43,8 @@ keeps_declared_as name word type x (Some (known.constant n)) w = keeps_never
 keeps_item_at_file : (word : Storage) (base : Qualified) (specifiers : ℕ) (x : Item) → IsWhole base.type → Keeps (IsItemAtFile word base x)
 keeps_item_at_file word base specifiers x w =
     keeps_bind (keeps_derivations (lines_of x.declarator specifiers) x.declarator) (λ ds. keeps_such_then (λ type p.
-    keeps_bind keeps_given (λ u. keeps_declared_as (or_no_name (name_of x.declarator)) word type x.initial (found_in (or_no_name (name_of x.declarator)).bytes predeclared_scope) (derived_whole false base ds type w p))))
+    keeps_bind keeps_given (λ u. keeps_declared_as (or_no_name (name_of x.declarator)) word type x.initial
+    (found_in (or_no_name (name_of x.declarator)).bytes predeclared_scope) (derived_whole false base ds type w p))))
 
 keeps_items_at_file : (word : Storage) (base : Qualified) (specifiers : ℕ) (xs : List Item) → IsWhole base.type → Keeps (AreItemsAtFile word base xs)
 keeps_items_at_file word base specifiers [] w = keeps_is

@@ -134,7 +134,8 @@ BecomesNull target from f = IsTrue (is_pointer target) × IsTrue from.is_null ×
 
 abbrev pub BecomesPointer : CType → Operand → Conversion → Type 0
 BecomesPointer target from f =
-    IsTrue (is_pointer target) × IsTrue (point_to_one from.type target) × IsTrue (has_each (target_of from.type).qualifiers (target_of target).qualifiers) × (f ≡ to.Pointer)
+    IsTrue (is_pointer target) × IsTrue (point_to_one from.type target) × IsTrue
+    (has_each (target_of from.type).qualifiers (target_of target).qualifiers) × (f ≡ to.Pointer)
 
 abbrev pub Converts : CType → Operand → Conversion → Type 0
 Converts target from f =

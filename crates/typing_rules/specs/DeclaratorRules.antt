@@ -142,8 +142,13 @@ parameter_of at (Ok t) = if is_void t.type then Err (Mismatch at.rules 14) else 
 
 abbrev pub parameter_local : Declarator → ℕ → Qualified → Local
 parameter_local d specifiers type =
-    record { name = option_map (λ n. n.bytes) (name_of d); line = (lines_of d specifiers).rules; first = first_of_declarator d; type = type; is_addressed = false }
-
+    record {
+      name = option_map (λ n. n.bytes) (name_of d);
+      line = (lines_of d specifiers).rules;
+      first = first_of_declarator d;
+      type = type;
+      is_addressed = false;
+    }
 
 -- ---- locals
 
@@ -157,4 +162,3 @@ no_name = record { line = 0; bytes = [] }
 abbrev pub or_no_name : Option Named → Named
 or_no_name None = no_name
 or_no_name (Some name) = name
-

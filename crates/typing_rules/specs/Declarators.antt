@@ -17,7 +17,8 @@ use Rattle.typing_rules.specs.Holding.{Typing, ◌>>=◌, ◌>>◌, Is, Such, Ho
 abbrev pub Says : Test → List SpecifierWord → Specified → Type 0
 Says may_store words s =
     IsTrue (storage_fits may_store words) ×
-    ((t : CType) × (named_by words namings ≡ Some t) × (s ≡ record { storage = storage_in words; type = record { qualifiers = qualifiers_in words; type = t } }))
+    ((t : CType) × (named_by words namings ≡ Some t) × (s ≡ record
+    { storage = storage_in words; type = record { qualifiers = qualifiers_in words; type = t } }))
 
 abbrev pub AreSpecified : Test → Specifiers → Typing Specified
 AreSpecified may_store s = Such (Says may_store s.words)

@@ -157,8 +157,8 @@ item_in_block base specifiers x = do
   ds ← derivations_of (lines_of x.declarator specifiers) x.declarator
   type ← from_result (derived (lines_of x.declarator specifiers) false base ds)
   choose (is_function type.type)
-    (function_in_block (or_no_name (name_of x.declarator)) type x.initial)
-    (object_in_block (or_no_name (name_of x.declarator)) (first_of_declarator x.declarator) type x.initial)
+      (function_in_block (or_no_name (name_of x.declarator)) type x.initial)
+      (object_in_block (or_no_name (name_of x.declarator)) (first_of_declarator x.declarator) type x.initial)
 
 abbrev pub items_in_block : Qualified → ℕ → List Item → Checking (List LocalItem)
 items_in_block base specifiers [] = pure []

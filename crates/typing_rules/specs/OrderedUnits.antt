@@ -109,7 +109,16 @@ function_defined d = do
   body ← items_of (result_of type.type) false d.body
   locals ← asks (λ k. k.locals)
   makes function_closed
-  pure (record { entity = n; line = (or_no_name (name_of d.declarator)).line; type = type.type; parameters = length ps; locals = map row_of locals; begin = d.begin; body = body; end = d.end })
+  pure (record {
+    entity = n;
+    line = (or_no_name (name_of d.declarator)).line;
+    type = type.type;
+    parameters = length ps;
+    locals = map row_of locals;
+    begin = d.begin;
+    body = body;
+    end = d.end;
+  })
 
 -- ---- files and programs
 

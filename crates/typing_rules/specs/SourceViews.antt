@@ -179,31 +179,38 @@ module _ (shift : ℕ → ℕ) where
 
   unfoldable pub expr_view : tree_expr.Expr → Expr
   expr_view =
-      tree_expr.fold-Expr DirectView Node (Parts → Parts) DeclaratorView Expr ParameterView TypeName direct_from node_from suffix_from declarator_from expr_from parameter_from type_name_from
+      tree_expr.fold-Expr DirectView Node (Parts → Parts) DeclaratorView Expr ParameterView TypeName direct_from node_from suffix_from
+      declarator_from expr_from parameter_from type_name_from
 
   unfoldable pub node_view : tree_node.ExprNode → Node
   node_view =
-      tree_node.fold-ExprNode DirectView Node (Parts → Parts) DeclaratorView Expr ParameterView TypeName direct_from node_from suffix_from declarator_from expr_from parameter_from type_name_from
+      tree_node.fold-ExprNode DirectView Node (Parts → Parts) DeclaratorView Expr ParameterView TypeName direct_from node_from suffix_from
+      declarator_from expr_from parameter_from type_name_from
 
   unfoldable pub type_name_view : tree_type_name.TypeName → TypeName
   type_name_view =
-      tree_type_name.fold-TypeName DirectView Node (Parts → Parts) DeclaratorView Expr ParameterView TypeName direct_from node_from suffix_from declarator_from expr_from parameter_from type_name_from
+      tree_type_name.fold-TypeName DirectView Node (Parts → Parts) DeclaratorView Expr ParameterView TypeName direct_from node_from suffix_from
+      declarator_from expr_from parameter_from type_name_from
 
   unfoldable pub direct_view : tree_direct.Direct → DirectView
   direct_view =
-      tree_direct.fold-Direct DirectView Node (Parts → Parts) DeclaratorView Expr ParameterView TypeName direct_from node_from suffix_from declarator_from expr_from parameter_from type_name_from
+      tree_direct.fold-Direct DirectView Node (Parts → Parts) DeclaratorView Expr ParameterView TypeName direct_from node_from suffix_from
+      declarator_from expr_from parameter_from type_name_from
 
   unfoldable pub suffix_view : tree_suffix.Suffix → Parts → Parts
   suffix_view =
-      tree_suffix.fold-Suffix DirectView Node (Parts → Parts) DeclaratorView Expr ParameterView TypeName direct_from node_from suffix_from declarator_from expr_from parameter_from type_name_from
+      tree_suffix.fold-Suffix DirectView Node (Parts → Parts) DeclaratorView Expr ParameterView TypeName direct_from node_from suffix_from
+      declarator_from expr_from parameter_from type_name_from
 
   unfoldable pub parameter_view : tree_parameter.Parameter → ParameterView
   parameter_view =
-      tree_parameter.fold-Parameter DirectView Node (Parts → Parts) DeclaratorView Expr ParameterView TypeName direct_from node_from suffix_from declarator_from expr_from parameter_from type_name_from
+      tree_parameter.fold-Parameter DirectView Node (Parts → Parts) DeclaratorView Expr ParameterView TypeName direct_from node_from suffix_from
+      declarator_from expr_from parameter_from type_name_from
 
   unfoldable pub declarator_view : tree_declarator.Declarator → DeclaratorView
   declarator_view =
-      tree_declarator.fold-Declarator DirectView Node (Parts → Parts) DeclaratorView Expr ParameterView TypeName direct_from node_from suffix_from declarator_from expr_from parameter_from type_name_from
+      tree_declarator.fold-Declarator DirectView Node (Parts → Parts) DeclaratorView Expr ParameterView TypeName direct_from node_from suffix_from
+      declarator_from expr_from parameter_from type_name_from
 
   -- ---- initializers and declarations
 
@@ -259,7 +266,14 @@ module _ (shift : ℕ → ℕ) where
 
   abbrev pub definition_view : FunctionDefinition → Definition
   definition_view d =
-      record { specifiers = specifiers_view d.line d.specifiers; declarator = declarator_of (declarator_view d.declarator); begin = (block_view d.body).line; body = (block_view d.body).items; end = (block_view d.body).end }
+      record {
+        specifiers = specifiers_view d.line d.specifiers;
+        declarator = declarator_of (declarator_view d.declarator);
+        begin =
+            (block_view d.body).line;
+        body = (block_view d.body).items;
+        end = (block_view d.body).end;
+      }
 
   abbrev pub external_view : TreeExternal → External
   external_view (external.Function d) = function (definition_view d)

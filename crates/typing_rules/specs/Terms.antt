@@ -248,4 +248,3 @@ pointed_term line v to = pointed_as (is_function to.type)
 -- a change by an operator
 abbrev pub change_by : Test → ℕ → Op → ℕ → Change
 change_by is_after first op where_to = record { is_after = is_after; first = first; op = op; at = where_to }
-

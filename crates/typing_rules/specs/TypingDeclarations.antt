@@ -147,8 +147,8 @@ IsItemInBlock base x = do
   ds ← AreDerivations x.declarator
   type ← Such (IsDerived false base ds)
   Either (is_function type.type)
-    (IsFunctionInBlock (or_no_name (name_of x.declarator)) type x.initial)
-    (IsObjectInBlock (or_no_name (name_of x.declarator)) (first_of_declarator x.declarator) type x.initial)
+      (IsFunctionInBlock (or_no_name (name_of x.declarator)) type x.initial)
+      (IsObjectInBlock (or_no_name (name_of x.declarator)) (first_of_declarator x.declarator) type x.initial)
 
 abbrev pub AreItemsInBlock : Qualified → List Item → Typing (List LocalItem)
 AreItemsInBlock base [] = Is []

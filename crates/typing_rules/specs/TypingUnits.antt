@@ -105,7 +105,16 @@ IsFunctionDefined d = do
   body ← AreItems (result_of type.type) false d.body
   locals ← Asks (λ k. k.locals)
   Makes function_closed
-  Is (record { entity = n; line = (or_no_name (name_of d.declarator)).line; type = type.type; parameters = length ps; locals = map row_of locals; begin = d.begin; body = body; end = d.end })
+  Is (record {
+    entity = n;
+    line = (or_no_name (name_of d.declarator)).line;
+    type = type.type;
+    parameters = length ps;
+    locals = map row_of locals;
+    begin = d.begin;
+    body = body;
+    end = d.end;
+  })
 
 -- ---- files and programs
 

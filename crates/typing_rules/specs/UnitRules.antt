@@ -68,11 +68,35 @@ no_file = record { functions = []; statics = []; texts = [] }
 -- before the main file, and before the binary file
 abbrev pub nothing_known : Known
 nothing_known =
-    record { file = main_file; scopes = []; file_scope = []; entities = []; declared = []; locals = []; texts = []; static_cells = 0; functions = 0; types = []; uses = [] }
+    record {
+      file = main_file;
+      scopes = [];
+      file_scope = [];
+      entities = [];
+      declared = [];
+      locals = [];
+      texts = [];
+      static_cells = 0;
+      functions = 0;
+      types = [];
+      uses = [];
+    }
 
 abbrev pub binary_begun : Known → Known
 binary_begun k =
-    record { file = binary_file; scopes = []; file_scope = []; entities = k.entities; declared = []; locals = []; texts = []; static_cells = 0; functions = 0; types = k.types; uses = k.uses }
+    record {
+      file = binary_file;
+      scopes = [];
+      file_scope = [];
+      entities = k.entities;
+      declared = [];
+      locals = [];
+      texts = [];
+      static_cells = 0;
+      functions = 0;
+      types = k.types;
+      uses = k.uses;
+    }
 
 -- ---- programs
 
@@ -111,5 +135,6 @@ is_extern extern_word = true
 -- what an object of file scope starts with, and the type that this completes
 abbrev pub with_contents : Named → Linked → Initialized → Known → Known
 with_contents name l done k =
-    with_file_meaning name.bytes (linked l.entity (composed l.type done.type)) (with_entity_at l.entity (record (entity_at k.entities l.entity) { type = composed (entity_at k.entities l.entity).type done.type; contents = starts_of done.given }) k)
-
+    with_file_meaning name.bytes (linked l.entity (composed l.type done.type))
+    (with_entity_at l.entity (record (entity_at k.entities l.entity)
+    { type = composed (entity_at k.entities l.entity).type done.type; contents = starts_of done.given }) k)
