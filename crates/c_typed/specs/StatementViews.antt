@@ -11,6 +11,8 @@ use Rattle.c_typed.specs.declared.statement.ForStart.{ForStart as CodeForStart}
 use Rattle.c_typed.specs.declared.statement.ForStart.TheVariants as for_start
 use Rattle.c_typed.specs.declared.statement.BlockItem.{BlockItem-F}
 use Rattle.c_typed.specs.declared.statement.StmtNode.{StmtNode-F}
+use Rattle.c_typed.specs.declared.statement.BlockItem as code_block_item
+use Rattle.c_typed.specs.declared.statement.StmtNode as code_stmt_node
 use Rattle.c_typed.specs.declared.statement.Block as code_block
 use Rattle.c_typed.specs.declared.statement.Stmt as code_stmt
 use Rattle.c_typed.specs.declared.program.LocalRow.{LocalRow as CodeLocalRow}
@@ -76,6 +78,14 @@ module _ (types : TypeRef → CType) where
 
   unfoldable pub stmt_view : code_stmt.Stmt → Stmt
   stmt_view = code_stmt.fold-Stmt (Items → Items) (ℕ → Stmt) BlockView Stmt block_item_from stmt_node_from block_from stmt_from
+
+  unfoldable pub stmt_node_view : code_stmt_node.StmtNode → ℕ → Stmt
+  stmt_node_view =
+      code_stmt_node.fold-StmtNode (Items → Items) (ℕ → Stmt) BlockView Stmt block_item_from stmt_node_from block_from stmt_from
+
+  unfoldable pub block_item_view : code_block_item.BlockItem → Items → Items
+  block_item_view =
+      code_block_item.fold-BlockItem (Items → Items) (ℕ → Stmt) BlockView Stmt block_item_from stmt_node_from block_from stmt_from
 
   unfoldable pub block_view : code_block.Block → BlockView
   block_view = code_block.fold-Block (Items → Items) (ℕ → Stmt) BlockView Stmt block_item_from stmt_node_from block_from stmt_from

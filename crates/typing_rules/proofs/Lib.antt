@@ -17,3 +17,4 @@ pub mod StatementsKeep
 pub mod ContentsKeep
 pub mod UnitsKeep
 pub mod ContentsFit
+pub mod SourceStatementViewLaws

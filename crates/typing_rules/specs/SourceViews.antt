@@ -28,6 +28,8 @@ use Rattle.c_tree.specs.declared.statement.ForStart.{ForStart as TreeForStart}
 use Rattle.c_tree.specs.declared.statement.ForStart.TheVariants as for_start
 use Rattle.c_tree.specs.declared.statement.BlockItem.{BlockItem-F}
 use Rattle.c_tree.specs.declared.statement.StmtNode.{StmtNode-F}
+use Rattle.c_tree.specs.declared.statement.BlockItem as tree_block_item
+use Rattle.c_tree.specs.declared.statement.StmtNode as tree_stmt_node
 use Rattle.c_tree.specs.declared.statement.Block as tree_block
 use Rattle.c_tree.specs.declared.statement.Stmt as tree_stmt
 use Rattle.c_tree.specs.declared.unit.External.{External as TreeExternal}
@@ -260,6 +262,14 @@ module _ (shift : ℕ → ℕ) where
 
   unfoldable pub stmt_view : tree_stmt.Stmt → Stmt
   stmt_view = tree_stmt.fold-Stmt (Items → Items) (ℕ → Stmt) BlockView Stmt block_item_from stmt_node_from block_view_from stmt_from
+
+  unfoldable pub stmt_node_view : tree_stmt_node.StmtNode → ℕ → Stmt
+  stmt_node_view =
+      tree_stmt_node.fold-StmtNode (Items → Items) (ℕ → Stmt) BlockView Stmt block_item_from stmt_node_from block_view_from stmt_from
+
+  unfoldable pub block_item_view : tree_block_item.BlockItem → Items → Items
+  block_item_view =
+      tree_block_item.fold-BlockItem (Items → Items) (ℕ → Stmt) BlockView Stmt block_item_from stmt_node_from block_view_from stmt_from
 
   unfoldable pub block_view : tree_block.Block → BlockView
   block_view = tree_block.fold-Block (Items → Items) (ℕ → Stmt) BlockView Stmt block_item_from stmt_node_from block_view_from stmt_from
