@@ -1,5 +1,5 @@
 -- What the view of a statement is, a constructor at a time.
-use Rattle.std.proofs.Common.{◌≡◌, ℕ, List, map, Option, Some, None, refl, ap, sym, ◌∙◌}
+use Rattle.std.proofs.Common.{◌≡◌, ℕ, List, map, Option, Some, None, ap, sym, ◌∙◌}
 use Rattle.std.specs.Prelude.{option_map}
 use Rattle.c_tree.specs.declared.expression.Expr as tree_expr
 use Rattle.c_tree.specs.declared.declaration.Declaration as tree_declaration
@@ -15,7 +15,7 @@ use Rattle.c_tree.specs.declared.statement.StmtNode.{StmtNode-F}
 use Rattle.c_tree.specs.declared.statement.StmtNode.TheVariants as sn
 use Rattle.c_tree.specs.declared.statement.Block as tree_block
 use Rattle.c_tree.specs.declared.statement.Stmt as tree_stmt
-use Rattle.typing_rules.specs.SourceUnits.{Initial, single, braced, Stmt, block, empty, expression, if_only, if_else, while, do_while, for, continue, break, return, Items, declaration, statement}
+use Rattle.typing_rules.specs.SourceUnits.{Initial, single, braced, Stmt, empty, expression, if_only, if_else, while, do_while, for, continue, break, return, Items, declaration, statement}
 use Rattle.typing_rules.specs.SourceViews.{BlockView, all_items, block_from, initials_from, block_item_from, stmt_node_from, block_view_from, stmt_from, for_start_view, declaration_view, initial_from, initial_view, expr_view, stmt_view, stmt_node_view, block_view, block_item_view}
 
 module _ (shift : ℕ → ℕ) where
