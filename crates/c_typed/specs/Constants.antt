@@ -1,7 +1,5 @@
 -- Integer constant expressions (C11 6.6p6) of the typed tree.
 use Rattle.std.specs.Prelude.{ℕ, ◌==◌, Bool as Test, true, false, if◌then◌else◌, bit_xor, Result, Ok, Err}
-use Rattle.srmt_base.specs.declared.ty.Ty.{Ty}
-use Rattle.srmt_base.specs.declared.op.Op.{Op}
 use Rattle.srmt_base.specs.declared.op.Op.TheVariants.{Sub}
 use Rattle.srmt_base.specs.declared.trap.Trap.{Trap}
 use Rattle.srmt_base.specs.Arith.{arith_of}

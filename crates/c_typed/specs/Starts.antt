@@ -1,5 +1,5 @@
 -- Address constants (C11 6.6p9), and what a static object starts with (C11 6.7.9p4).
-use Rattle.std.specs.Prelude.{ℕ, ℤ, pos, ◌+ℤ◌, ◌==◌, Bool as Test, true, false, not, if◌then◌else◌, unsigned_abs, List, Option, Some, None}
+use Rattle.std.specs.Prelude.{ℕ, ℤ, pos, ◌+ℤ◌, ◌==◌, Bool as Test, true, false, if◌then◌else◌, unsigned_abs, Option, Some, None}
 use Rattle.srmt_base.specs.declared.ty.Ty.{Ty}
 use Rattle.srmt_base.specs.Pointer.{is_offset, amount_of}
 use Rattle.c_types.specs.Types.{CType, ty_of, target_of, cells_of}

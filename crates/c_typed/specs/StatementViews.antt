@@ -11,6 +11,8 @@ use Rattle.c_typed.specs.declared.statement.ForStart.{ForStart as CodeForStart}
 use Rattle.c_typed.specs.declared.statement.ForStart.TheVariants as for_start
 use Rattle.c_typed.specs.declared.statement.BlockItem.{BlockItem-F}
 use Rattle.c_typed.specs.declared.statement.StmtNode.{StmtNode-F}
+use Rattle.c_typed.specs.declared.statement.BlockItem as code_block_item
+use Rattle.c_typed.specs.declared.statement.StmtNode as code_stmt_node
 use Rattle.c_typed.specs.declared.statement.Block as code_block
 use Rattle.c_typed.specs.declared.statement.Stmt as code_stmt
 use Rattle.c_typed.specs.declared.program.LocalRow.{LocalRow as CodeLocalRow}
@@ -77,6 +79,14 @@ module _ (types : TypeRef → CType) where
   unfoldable pub stmt_view : code_stmt.Stmt → Stmt
   stmt_view = code_stmt.fold-Stmt (Items → Items) (ℕ → Stmt) BlockView Stmt block_item_from stmt_node_from block_from stmt_from
 
+  unfoldable pub stmt_node_view : code_stmt_node.StmtNode → ℕ → Stmt
+  stmt_node_view =
+      code_stmt_node.fold-StmtNode (Items → Items) (ℕ → Stmt) BlockView Stmt block_item_from stmt_node_from block_from stmt_from
+
+  unfoldable pub block_item_view : code_block_item.BlockItem → Items → Items
+  block_item_view =
+      code_block_item.fold-BlockItem (Items → Items) (ℕ → Stmt) BlockView Stmt block_item_from stmt_node_from block_from stmt_from
+
   unfoldable pub block_view : code_block.Block → BlockView
   block_view = code_block.fold-Block (Items → Items) (ℕ → Stmt) BlockView Stmt block_item_from stmt_node_from block_from stmt_from
 
@@ -85,7 +95,17 @@ module _ (types : TypeRef → CType) where
 
   unfoldable pub function_view : CodeFunction → Function
   function_view f =
-      record { entity = f.entity; line = f.line; type = types f.ty; parameters = f.parameters; locals = map row_view f.locals; begin = (block_view f.body).line; body = (block_view f.body).items; end = (block_view f.body).end }
+      record {
+        entity = f.entity;
+        line = f.line;
+        type = types f.ty;
+        parameters = f.parameters;
+        locals = map row_view f.locals;
+        begin =
+            (block_view f.body).line;
+        body = (block_view f.body).items;
+        end = (block_view f.body).end;
+      }
 
   abbrev pub static_view : CodeStatic → Static
   static_view s = record { entity = s.entity; line = s.line; type = qualified_from types s.ty; cells = s.cells }
@@ -96,4 +116,9 @@ module _ (types : TypeRef → CType) where
 -- a program, whose references stand for the types of its table
 unfoldable pub program_view : TypedProgram → Program
 program_view p =
-    record { main_file = file_view (type_at p.types) p.main_file; binary_file = file_view (type_at p.types) p.binary_file; entities = p.entities; main = p.main }
+    record {
+      main_file = file_view (type_at p.types) p.main_file;
+      binary_file = file_view (type_at p.types) p.binary_file;
+      entities = p.entities;
+      main = p.main;
+    }

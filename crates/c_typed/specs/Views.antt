@@ -1,5 +1,5 @@
 -- The typed tree of the code as plain data, where references stand for these types.
-use Rattle.std.specs.Prelude.{ℕ, List, [], ◌∷◌, map, Option, Some, None, option_map}
+use Rattle.std.specs.Prelude.{List, [], ◌∷◌}
 use Rattle.c_types.specs.declared.type_ref.TypeRef.{TypeRef}
 use Rattle.c_types.specs.declared.type_ref.QualifiedRef.{QualifiedRef}
 use Rattle.c_types.specs.Types.{CType, Qualified}

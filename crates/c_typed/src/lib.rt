@@ -11,6 +11,10 @@ mod statement;
 mod value;
 
 pub use constant::Constant;
-pub use program::{Function, LocalRow, Numbered, Start, StartCell, Static, TextObject, TypedFile, TypedProgram};
-pub use statement::{Block, BlockItem, Cell, ForHead, ForStart, Initializer, LocalItem, Stmt, StmtNode};
+pub use program::{
+    Function, LocalRow, Numbered, Start, StartCell, Static, TextObject, TypedFile, TypedProgram,
+};
+pub use statement::{
+    Block, BlockItem, Cell, ForHead, ForStart, Initializer, LocalItem, Stmt, StmtNode,
+};
 pub use value::{IntegerChange, Place, PlaceNode, PointerChange, Value, ValueNode};

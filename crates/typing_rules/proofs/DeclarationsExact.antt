@@ -1,9 +1,8 @@
 -- Declarations and initializers: the ordered function and the relation are one.
-use Rattle.std.proofs.Common.{◌≡◌, ℕ, suc, ◌+◌, ◌≤◌, Bool as Test, true, false, not, List, [], ◌∷◌, length, refl, Option, Some, None, inl, inr, ◌⊎◌, ◌↔◌, arith}
-use Rattle.std.specs.Prelude.{IsTrue, IsFalse, IsSome, ◌||◌, nat_le, is_some}
+use Rattle.std.proofs.Common.{ℕ, suc, ◌+◌, Bool as Test, false, not, List, [], ◌∷◌, Option, Some, None, ◌⊎◌, ◌↔◌, arith}
+use Rattle.std.specs.Prelude.{IsTrue, IsFalse, IsSome, ◌||◌, is_some}
 use Rattle.c_types.specs.Types.{CType, void, integer, pointer, array, returning, taking, Qualified, is_void, is_function, is_complete, cells_of, same_type}
 use Rattle.c_typed.specs.declared.program.Start.{Start}
-use Rattle.c_typed.specs.Starts.{start_of}
 use Rattle.typing_rules.specs.declared.refusal.TypeRefusal.TheVariants.{Twice, Mismatch, TooLarge}
 use Rattle.typing_rules.specs.declared.refusal.Size.TheVariants.{Cells}
 use Rattle.typing_rules.specs.Source.{Named, Expr, line_of}
@@ -13,12 +12,12 @@ use Rattle.typing_rules.specs.Known.{Known, Linked, Meaning, Predeclared, innerm
 use Rattle.typing_rules.specs.Limits.{most_cells}
 use Rattle.typing_rules.specs.Terms.{operand_of}
 use Rattle.typing_rules.specs.SpecifierRules.{Storage, no_word}
-use Rattle.typing_rules.specs.DeclaratorRules.{lines_of, name_of, first_of_declarator}
+use Rattle.typing_rules.specs.DeclaratorRules.{lines_of, name_of, first_of_declarator, or_no_name}
 use Rattle.typing_rules.specs.DeclarationRules.{agrees_before, TextAt, text_for, text_fits, completed, is_past}
 use Rattle.typing_rules.specs.Exact.{Exact}
-use Rattle.typing_rules.specs.OrderedDeclarations.{links, value_of, insides, misshapen, scalar_cells, text_given, single_cells, cells_given, items_given, initialized, predeclared_again, linked_in_block, function_meaning, no_initial, function_in_block, local_initialized, object_in_block, or_no_name, item_in_block, items_in_block, declared_in_block}
-use Rattle.typing_rules.specs.TypingDeclarations.{IsLinked, IsValueOf, IsStart, IsScalar, IsTextGiven, AreSingleCells, AreCellsGiven, AreItemsGiven, IsInitialized, IsPredeclaredAgain, IsLinkedInBlock, IsFunctionMeaning, HasNoInitial, IsFunctionInBlock, IsLocalInitialized, IsObjectInBlock, IsItemInBlock, AreItemsInBlock, IsDeclaredInBlock}
-use Rattle.typing_rules.proofs.Exactness.{exact_pure, exact_refuse, exact_refused, exact_asks, exact_makes, exact_bind, exact_needs, exact_tests, exact_ruled, exact_choose, exact_from_result}
+use Rattle.typing_rules.specs.OrderedDeclarations.{links, value_of, insides, scalar_cells, text_given, single_cells, cells_given, items_given, initialized, linked_in_block, function_meaning, no_initial, function_in_block, local_initialized, object_in_block, item_in_block, items_in_block, declared_in_block}
+use Rattle.typing_rules.specs.TypingDeclarations.{IsLinked, IsValueOf, IsStart, IsScalar, IsTextGiven, AreSingleCells, AreCellsGiven, AreItemsGiven, IsInitialized, IsLinkedInBlock, IsFunctionMeaning, HasNoInitial, IsFunctionInBlock, IsLocalInitialized, IsObjectInBlock, IsItemInBlock, AreItemsInBlock, IsDeclaredInBlock}
+use Rattle.typing_rules.proofs.Exactness.{exact_pure, exact_refused, exact_asks, exact_makes, exact_bind, exact_needs, exact_tests, exact_ruled, exact_choose, exact_from_result}
 use Rattle.typing_rules.proofs.RulesAllow.{conversion_allows}
 use Rattle.typing_rules.proofs.PartsExact.{null_is_integer, exact_written, at_most}
 use Rattle.typing_rules.proofs.DeclaratorsExact.{exact_specified, derived_allows, is_there, exact_declares}
@@ -49,7 +48,8 @@ exact_value e = exact_written (line_of e) (exact_term e)
 is_start : (is_static : Test) (start : Option Start) → IsTrue (not is_static || is_some start) ↔ IsStart is_static start
 is_start is_static start = grind arith
 
-exact_scalar : (is_static : Test) (at : ℕ) (type : CType) (index : ℕ) (e : Expr) → Exact (scalar_cells is_static at type index e) (IsScalar is_static type index e)
+exact_scalar : (is_static : Test) (at : ℕ) (type : CType) (index : ℕ) (e : Expr) → Exact (scalar_cells is_static at type index e)
+    (IsScalar is_static type index e)
 exact_scalar is_static at type index e =
     exact_bind (exact_value e) (λ a.
     exact_bind (exact_ruled at _ _ (λ f. conversion_allows type (operand_of a.value) f (null_is_integer a.value))) (λ form.
@@ -60,7 +60,8 @@ exact_text_given : (at : ℕ) (element : CType) (n : Option ℕ) (index : ℕ) (
 exact_text_given at element n index e None = exact_refused (insides (single e)) (Mismatch at 16)
 exact_text_given at element n index e (Some t) = exact_bind (exact_needs _ _ (Mismatch at 16) (itself (text_fits n t.bytes))) (λ u. exact_pure _)
 
-exact_single : (is_static : Test) (at : ℕ) (type : CType) (index : ℕ) (e : Expr) → Exact (single_cells is_static at type index e) (AreSingleCells is_static type index e)
+exact_single : (is_static : Test) (at : ℕ) (type : CType) (index : ℕ) (e : Expr) → Exact (single_cells is_static at type index e)
+    (AreSingleCells is_static type index e)
 exact_single is_static at (array q t n) index e = exact_text_given at t n index e (text_for t e)
 exact_single is_static at (returning q t) index e = exact_refused (insides (single e)) (Mismatch at 16)
 exact_single is_static at (taking p t) index e = exact_refused (insides (single e)) (Mismatch at 16)
@@ -86,7 +87,8 @@ mutual
   exact_items is_static at t n i index no_initials = exact_pure _
   exact_items is_static at t n i index (first_initial x rest) =
       exact_choose (is_past n i) (exact_refused (insides x) (Mismatch at 16))
-      (exact_bind (exact_cells is_static at t index x) (λ first. exact_bind (exact_items is_static at t n (suc i) (index + cells_of t) rest) (λ others. exact_pure _)))
+      (exact_bind (exact_cells is_static at t index x) (λ first. exact_bind (exact_items is_static at t n (suc i) (index + cells_of t) rest)
+      (λ others. exact_pure _)))
 
 pub exact_initialized : (is_static : Test) (at : ℕ) (type : Qualified) (x : Initial) → Exact (initialized is_static at type x) (IsInitialized is_static type x)
 exact_initialized is_static at type x =
@@ -125,7 +127,8 @@ exact_local_initialized at n type (Some x) =
 is_complete_by : (x : Option Initial) (test : Test) → IsTrue (is_some x || test) ↔ (IsSome x ⊎ IsTrue test)
 is_complete_by x test = grind arith
 
-exact_object_in_block : (name : Named) (first : ℕ) (type : Qualified) (x : Option Initial) → Exact (object_in_block name first type x) (IsObjectInBlock name first type x)
+exact_object_in_block : (name : Named) (first : ℕ) (type : Qualified) (x : Option Initial) → Exact (object_in_block name first type x)
+    (IsObjectInBlock name first type x)
 exact_object_in_block name first type x =
     exact_bind (exact_needs _ _ (Mismatch name.line 14) (opposite_of (is_void type.type))) (λ u.
     exact_bind (exact_needs _ _ (Mismatch name.line 15) (is_complete_by x (is_complete type.type))) (λ u'.

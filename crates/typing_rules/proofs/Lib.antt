@@ -8,3 +8,13 @@ pub mod StatementsExact
 pub mod UnitsExact
 mod Worked
 pub mod SourceViewLaws
+pub mod Keeping
+pub mod PartsKeep
+pub mod DeclaratorsKeep
+pub mod TermsKeep
+pub mod DeclarationsKeep
+pub mod StatementsKeep
+pub mod ContentsKeep
+pub mod UnitsKeep
+pub mod ContentsFit
+pub mod SourceStatementViewLaws

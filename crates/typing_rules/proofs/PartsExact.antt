@@ -1,27 +1,23 @@
 -- The parts of expressions: the ordered function and the relation are one.
-use Rattle.std.proofs.Common.{◌≡◌, ℕ, suc, ◌≤◌, ◌<◌, ◌+◌, Bool as Test, true, false, List, [], ◌∷◌, length, refl, ap, sym, ◌∙◌, Option, Some, None, Result, Ok, Err, inl, inr, ◌⊎◌, ◌↔◌, arith}
-use Rattle.std.specs.Prelude.{if◌then◌else◌, nat_le, nat_lt, IsTrue, IsFalse, ◌==◌, is_none, ◌&&◌}
-use Rattle.srmt_base.specs.declared.ty.Ty.{Ty}
+use Rattle.std.proofs.Common.{◌≡◌, ℕ, suc, ◌≤◌, ◌+◌, true, false, List, [], ◌∷◌, length, refl, ap, Option, Some, None, ◌↔◌, arith}
+use Rattle.std.specs.Prelude.{nat_le, IsTrue}
 use Rattle.srmt_base.specs.declared.op.Op.{Op}
-use Rattle.c_types.specs.Types.{CType, Qualified, is_integer, is_function, parameters_of}
-use Rattle.c_types.specs.Rules.{Ruled, Operand, conversion_form, callee_type, indirection_type, index_form, binary_form, tested_type, unary_type, choice_form, assignment_form, update_form, cast_type, sizeof_type}
+use Rattle.c_types.specs.Types.{CType, Qualified, parameters_of}
 use Rattle.c_typed.specs.Typed as t
 use Rattle.c_typed.specs.Typed.{Place, place, PlaceNode, Value, value, Values, type_of}
-use Rattle.typing_rules.specs.declared.refusal.TypeRefusal.{TypeRefusal}
-use Rattle.typing_rules.specs.declared.refusal.TypeRefusal.TheVariants.{Unknown, Twice, Mismatch, TooLarge}
-use Rattle.typing_rules.specs.declared.refusal.Size.TheVariants.{Cells, Statics, Types}
-use Rattle.typing_rules.specs.Source.{Bytes, Named}
+use Rattle.typing_rules.specs.declared.refusal.TypeRefusal.TheVariants.{Unknown, Mismatch, TooLarge}
+use Rattle.typing_rules.specs.declared.refusal.Size.TheVariants.{Statics, Types}
+use Rattle.typing_rules.specs.Source.{Bytes}
 use Rattle.typing_rules.specs.Known as known
 use Rattle.typing_rules.specs.Known.{Known, Meaning, Local, meaning_of, local_at, entity_at, is_main}
 use Rattle.typing_rules.specs.Limits.{most_cells, most_static_cells, most_types}
 use Rattle.typing_rules.specs.Terms.{Term, object, result, designator, Designated, entity, predeclared, through, Written, written_type, operand_of, Target, may_change, Change}
-use Rattle.typing_rules.specs.Checking.{Checking, pure, refuse, asks, makes, needs, ruled_by}
-use Rattle.typing_rules.specs.Holding.{Typing, Is, Such, Given, Asks, Makes, Never}
+use Rattle.typing_rules.specs.Checking.{Checking}
+use Rattle.typing_rules.specs.Holding.{Typing}
 use Rattle.typing_rules.specs.Exact.{Exact}
-use Rattle.typing_rules.specs.OrderedParts.{designated, valued, written, meant, named, counted, text_term, indexed, indirect, marked, address_of, opposite, promoted, negative, complemented, computed, tested_both, conjoined, disjoined, chosen, target_of, assigned, changed, cast_to, unvalued, sized, called, passed, arguments_for, counted_type, call_through, call_of, linked_term}
+use Rattle.typing_rules.specs.OrderedParts.{designated, valued, written, meant, named, counted, text_term, indexed, indirect, marked, address_of, opposite, promoted, negative, complemented, computed, tested_both, conjoined, disjoined, chosen, target_of, assigned, changed, cast_to, unvalued, sized, called, passed, arguments_for, counted_type, call_through, call_of}
 use Rattle.typing_rules.specs.TypingParts.{IsDesignated, IsValue, IsWritten, IsMeant, IsNamed, AreCounted, IsText, IsIndexed, IsIndirect, IsMarked, IsAddress, IsOpposite, IsPromoted, IsNegative, IsComplement, IsComputed, AreTested, IsConjunction, IsDisjunction, IsChosen, IsTarget, IsAssigned, IsChanged, IsCast, IsUnvalued, IsSized, IsCalled, ArePassed, IsCounted, IsCallThrough, IsCall}
-use Rattle.typing_rules.specs.Constraints.{Converts}
-use Rattle.std.proofs.lemmas.Bool.{leb-true, le-leb, eqb-true, eq-eqb}
+use Rattle.std.proofs.lemmas.Bool.{leb-true, le-leb, eq-eqb}
 use Rattle.typing_rules.proofs.Exactness.{exact_pure, exact_refuse, exact_asks, exact_makes, exact_bind, exact_needs, exact_tests, exact_ruled, exact_given, exact_beside}
 use Rattle.typing_rules.proofs.RulesAllow.{NullIsInteger, unary_allows, tested_allows, binary_allows, update_allows, conversion_allows, assignment_allows, choice_allows, indirection_allows, index_allows, callee_allows, cast_allows, sizeof_allows}
 
@@ -98,11 +94,13 @@ exact_complemented line a = exact_bind (exact_ruled line _ _ (unary_allows (writ
 
 pub exact_computed : (line : ℕ) (op : Op) (at : ℕ) (a b : Written) → Exact (computed line op at a b) (IsComputed line op at a b)
 exact_computed line op at a b =
-    exact_bind (exact_ruled at _ _ (λ f. binary_allows op (operand_of a.value) (operand_of b.value) f (null_is_integer a.value) (null_is_integer b.value))) (λ form. exact_pure _)
+    exact_bind (exact_ruled at _ _ (λ f. binary_allows op (operand_of a.value) (operand_of b.value) f (null_is_integer a.value)
+    (null_is_integer b.value))) (λ form. exact_pure _)
 
 pub exact_tested : (at : ℕ) (a b : Written) → Exact (tested_both at a b) (AreTested a b)
 exact_tested at a b =
-    exact_bind (exact_ruled at _ _ (tested_allows (written_type a))) (λ u. exact_bind (exact_ruled at _ _ (tested_allows (written_type b))) (λ u'. exact_pure tt))
+    exact_bind (exact_ruled at _ _ (tested_allows (written_type a)))
+    (λ u. exact_bind (exact_ruled at _ _ (tested_allows (written_type b))) (λ u'. exact_pure tt))
 
 pub exact_conjoined : (line at : ℕ) (a b : Written) → Exact (conjoined line at a b) (IsConjunction line a b)
 exact_conjoined line at a b = exact_bind (exact_tested at a b) (λ u. exact_pure _)
@@ -112,7 +110,8 @@ exact_disjoined line at a b = exact_bind (exact_tested at a b) (λ u. exact_pure
 
 pub exact_chosen : (line at : ℕ) (test a b : Written) → Exact (chosen line at test a b) (IsChosen line test a b)
 exact_chosen line at test a b =
-    exact_bind (exact_ruled at _ _ (λ f. choice_allows (written_type test) (operand_of a.value) (operand_of b.value) f (null_is_integer a.value) (null_is_integer b.value))) (λ form. exact_pure _)
+    exact_bind (exact_ruled at _ _ (λ f. choice_allows (written_type test) (operand_of a.value) (operand_of b.value) f (null_is_integer a.value)
+    (null_is_integer b.value))) (λ form. exact_pure _)
 
 pub exact_target : (term : Term) → Exact (target_of term) (IsTarget term)
 exact_target (object p) = exact_pure _

@@ -1,15 +1,14 @@
 -- The rules on types allow exactly what the constraints say.
-use Rattle.std.proofs.Common.{◌≡◌, ℕ, Bool as Test, true, false, refl, Option, Some, None, Result, Ok, Err, inl, inr, ◌⊎◌, ◌↔◌, arith}
-use Rattle.std.specs.Prelude.{if◌then◌else◌, nat_le, IsTrue, IsFalse, ◌&&◌}
+use Rattle.std.proofs.Common.{◌≡◌, ℕ, Bool as Test, true, false, refl, Ok, Err, ◌↔◌, arith}
+use Rattle.std.specs.Prelude.{if◌then◌else◌, nat_le, IsTrue}
 use Rattle.srmt_base.specs.declared.ty.Ty.{Ty}
 use Rattle.srmt_base.specs.declared.op.Op.{Op}
 use Rattle.srmt_base.specs.declared.op.Op.TheVariants as o
 use Rattle.c_types.specs.declared.form.BinaryForm.{BinaryForm}
-use Rattle.c_types.specs.declared.form.BinaryForm.TheVariants as form
 use Rattle.c_types.specs.declared.form.ChoiceForm.{ChoiceForm}
 use Rattle.c_types.specs.declared.form.Conversion.{Conversion}
-use Rattle.c_types.specs.Types.{CType, Qualified, void, integer, pointer, array, returning, taking, is_integer, is_pointer, is_complete_pointer, is_scalar}
-use Rattle.c_types.specs.Rules.{Ruled, Operand, refused, beside, unary_type, tested_type, arithmetic_form, shift_form, step_form, sum_form, difference_form, relation_form, equality_form, binary_form, compound_form, update_form, conversion_form, assignment_form, branches_form, choice_form, indirection_type, index_form, callee_type, cast_type, sizeof_type}
+use Rattle.c_types.specs.Types.{CType, Qualified, is_integer, is_scalar}
+use Rattle.c_types.specs.Rules.{Ruled, Operand, beside, unary_type, tested_type, arithmetic_form, shift_form, step_form, sum_form, difference_form, relation_form, equality_form, binary_form, compound_form, update_form, conversion_form, assignment_form, branches_form, choice_form, indirection_type, index_form, callee_type, cast_type, sizeof_type}
 use Rattle.typing_rules.specs.Constraints.{Promotes, IsTested, Combines, Shifts, Steps, Adds, Subtracts, Relates, Equates, Operates, Changes, Updates, Converts, Assigns, Branches, Chooses, PointsTo, Indexes, Calls, CastsTo, HasSize}
 
 -- a null pointer constant is an integer
@@ -25,7 +24,8 @@ beside_refuses rule (Err other) a e = go (nat_le other rule) e
     go true p = absurd cc
     go false p = absurd cc
 
-beside_allows : {A : Type 0} (test : Test) (rule : ℕ) (r : Ruled A) (P : A → Type 0) (a : A) → ((r ≡ Ok a) ↔ P a) → (beside test rule r ≡ Ok a) ↔ (IsTrue test × P a)
+beside_allows : {A : Type 0} (test : Test) (rule : ℕ) (r : Ruled A) (P : A → Type 0) (a : A) → ((r ≡ Ok a) ↔ P a) → (beside test rule r ≡ Ok a) ↔
+    (IsTrue test × P a)
 beside_allows true rule r P a h = ((λ e. (refl, h.0 e)), (λ q. h.1 q.1))
 beside_allows false rule r P a h = ((λ e. absurd (beside_refuses rule r a e)), (λ q. absurd (let p : IsTrue false = q.0 in cc)))
 
@@ -101,8 +101,10 @@ update_allows op may_change a b f = beside_allows may_change 7 (compound_form op
 pub conversion_allows : (target : CType) (from : Operand) (f : Conversion) → NullIsInteger from → (conversion_form target from ≡ Ok f) ↔ Converts target from f
 conversion_allows target from f n = grind arith
 
-pub assignment_allows : (may_change : Test) (target : CType) (from : Operand) (f : Conversion) → NullIsInteger from → (assignment_form may_change target from ≡ Ok f) ↔ Assigns may_change target from f
-assignment_allows may_change target from f n = beside_allows may_change 7 (conversion_form target from) (Converts target from) f (conversion_allows target from f n)
+pub assignment_allows : (may_change : Test) (target : CType) (from : Operand) (f : Conversion) → NullIsInteger from →
+    (assignment_form may_change target from ≡ Ok f) ↔ Assigns may_change target from f
+assignment_allows may_change target from f n = beside_allows may_change 7 (conversion_form target from) (Converts target from) f
+    (conversion_allows target from f n)
 
 pub branches_allow : (a b : Operand) (f : ChoiceForm) → NullIsInteger a → NullIsInteger b → (branches_form a b ≡ Ok f) ↔ Branches a b f
 branches_allow a b f na nb = grind arith

@@ -1,6 +1,5 @@
 -- Statements: the ordered function and the relation are one.
-use Rattle.std.proofs.Common.{◌≡◌, ℕ, Bool as Test, true, false, Option, Some, None, Ok, Err, inl, inr, ◌⊎◌, ◌↔◌, refl, arith}
-use Rattle.std.specs.Prelude.{IsTrue, IsFalse}
+use Rattle.std.proofs.Common.{ℕ, Bool as Test, true, Option, Some, None}
 use Rattle.c_types.specs.Types.{CType, is_void}
 use Rattle.typing_rules.specs.declared.refusal.TypeRefusal.TheVariants.{Mismatch}
 use Rattle.typing_rules.specs.Source.{Expr}
@@ -50,7 +49,8 @@ mutual
   exact_stmt result in_loop (if_only line e s) =
       exact_bind (exact_condition line e) (λ test. exact_bind (exact_stmt result in_loop s) (λ first. exact_pure _))
   exact_stmt result in_loop (if_else line e s u) =
-      exact_bind (exact_condition line e) (λ test. exact_bind (exact_stmt result in_loop s) (λ first. exact_bind (exact_stmt result in_loop u) (λ second. exact_pure _)))
+      exact_bind (exact_condition line e) (λ test. exact_bind (exact_stmt result in_loop s)
+      (λ first. exact_bind (exact_stmt result in_loop u) (λ second. exact_pure _)))
   exact_stmt result in_loop (while line e s) =
       exact_bind (exact_condition line e) (λ test. exact_bind (exact_stmt result true s) (λ body. exact_pure _))
   exact_stmt result in_loop (do_while line s e) =

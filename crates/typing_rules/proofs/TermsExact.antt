@@ -1,21 +1,20 @@
 -- Expressions, declarators and names of types: the ordered function and the relation are one.
-use Rattle.std.proofs.Common.{◌≡◌, ℕ, Bool as Test, true, false, List, [], ◌∷◌, Option, Some, None}
+use Rattle.std.proofs.Common.{ℕ, true, false}
 use Rattle.srmt_base.specs.declared.op.Op.TheVariants.{Add, Sub}
-use Rattle.c_types.specs.Types.{Qualified}
 use Rattle.c_tree.specs.declared.operator.PrefixOp.TheVariants as pre
 use Rattle.c_tree.specs.declared.operator.PostfixOp.TheVariants as post
 use Rattle.c_typed.specs.Typed.{type_of}
 use Rattle.c_typed.specs.Constants.{constant_of}
 use Rattle.typing_rules.specs.Source.{Expr, at, name, number, character, text, parenthesized, index, call, prefix, postfix, sizeof_expr, sizeof_type, cast, binary, conjunction, disjunction, choice, assignment, compound, comma, Exprs, no_exprs, first_expr, TypeName, type_name, Declarator, declarator, Parts, no_parts, pointer_part, array_part, unsized_part, function_part, Parameters, no_parameters, first_parameter, line_of}
-use Rattle.typing_rules.specs.Terms.{Term, Written, one_value, Change}
+use Rattle.typing_rules.specs.Terms.{Term, one_value, Change, change_by}
 use Rattle.typing_rules.specs.DeclaratorRules.{Lines, lines_of}
 use Rattle.typing_rules.specs.Checking.{Checking}
 use Rattle.typing_rules.specs.Holding.{Typing}
 use Rattle.typing_rules.specs.Exact.{Exact}
-use Rattle.typing_rules.specs.Ordered.{change_by, stepped, term_of, all_of, type_named, derivations_of, parts_of, parameters_of}
+use Rattle.typing_rules.specs.Ordered.{stepped, term_of, all_of, type_named, derivations_of, parts_of, parameters_of}
 use Rattle.typing_rules.specs.Typing.{IsStepped, IsTerm, AreAll, IsTypeNamed, AreDerivations, AreParts, AreParameters}
 use Rattle.typing_rules.proofs.Exactness.{exact_pure, exact_bind, exact_ruled, exact_from_result}
-use Rattle.typing_rules.proofs.PartsExact.{exact_valued, exact_written, exact_named, exact_text, exact_indexed, exact_indirect, exact_address, exact_opposite, exact_promoted, exact_negative, exact_complemented, exact_computed, exact_conjoined, exact_disjoined, exact_chosen, exact_target, exact_assigned, exact_changed, exact_cast, exact_unvalued, exact_sized, exact_called, exact_call}
+use Rattle.typing_rules.proofs.PartsExact.{exact_written, exact_named, exact_text, exact_indexed, exact_indirect, exact_address, exact_opposite, exact_promoted, exact_negative, exact_complemented, exact_computed, exact_conjoined, exact_disjoined, exact_chosen, exact_target, exact_assigned, exact_changed, exact_cast, exact_unvalued, exact_sized, exact_called, exact_call}
 use Rattle.typing_rules.proofs.DeclaratorsExact.{exact_specified, length_allows, derived_allows, exact_parameter, exact_parameter_list}
 
 exact_stepped : (line : ℕ) (c : Change) {m : Checking Term} {S : Typing Term} → Exact m S → Exact (stepped line c m) (IsStepped line c S)
@@ -33,7 +32,8 @@ mutual
   exact_term (at line (index e op i)) =
       exact_bind (exact_written (line_of e) (exact_term e)) (λ a. exact_bind (exact_written (line_of i) (exact_term i)) (λ b. exact_indexed line op a b))
   exact_term (at line (call f op es)) =
-      exact_bind (exact_term f) (λ callee. exact_bind (exact_called callee) (λ function. exact_bind (exact_all es) (λ arguments. exact_call line op function arguments)))
+      exact_bind (exact_term f) (λ callee. exact_bind (exact_called callee)
+      (λ function. exact_bind (exact_all es) (λ arguments. exact_call line op function arguments)))
   exact_term (at line (prefix pre.Increment e)) = exact_stepped line (change_by false (line_of e) Add line) (exact_term e)
   exact_term (at line (prefix pre.Decrement e)) = exact_stepped line (change_by false (line_of e) Sub line) (exact_term e)
   exact_term (at line (prefix pre.AddressOf e)) = exact_bind (exact_term e) (exact_address line)

@@ -1,26 +1,25 @@
 -- Files and programs: the ordered function and the relation are one.
-use Rattle.std.proofs.Common.{◌≡◌, ℕ, suc, Bool as Test, true, false, not, List, [], ◌∷◌, length, refl, ap, sym, ◌∙◌, Option, Some, None, Result, Ok, Err, inl, inr, ◌⊎◌, ◌↔◌, arith}
-use Rattle.std.specs.Prelude.{IsTrue, IsFalse, ◌&&◌}
+use Rattle.std.proofs.Common.{◌≡◌, ℕ, suc, Bool as Test, true, false, not, List, [], ◌∷◌, refl, ap, sym, ◌∙◌, Option, Some, None, Result, Ok, Err, ◌↔◌}
+use Rattle.std.specs.Prelude.{◌&&◌}
 use Rattle.c_types.specs.Types.{Qualified, is_void, is_function, is_complete, same_type, cells_of, result_of}
 use Rattle.c_typed.specs.Statements as t
 use Rattle.typing_rules.specs.declared.refusal.TypeRefusal.{TypeRefusal}
 use Rattle.typing_rules.specs.declared.refusal.TypeRefusal.TheVariants.{Twice, Mismatch, NoMain, Unresolved, TooLarge}
 use Rattle.typing_rules.specs.declared.refusal.Size.TheVariants.{Functions}
 use Rattle.typing_rules.specs.Source.{Named}
-use Rattle.typing_rules.specs.SourceUnits.{Initial, Item, Declaration, Definition, External, function, declaration_of, Unit as SourceUnit}
+use Rattle.typing_rules.specs.SourceUnits.{Initial, Item, Definition, function, declaration_of, Unit as SourceUnit}
 use Rattle.typing_rules.specs.Known as known
 use Rattle.typing_rules.specs.Known.{Known, Linked, Meaning, Predeclared, found_in, predeclared_scope, type_of_predeclared}
 use Rattle.typing_rules.specs.Limits.{most_functions}
 use Rattle.typing_rules.specs.SpecifierRules.{Storage}
-use Rattle.typing_rules.specs.DeclaratorRules.{lines_of, name_of}
+use Rattle.typing_rules.specs.DeclaratorRules.{lines_of, name_of, or_no_name}
 use Rattle.typing_rules.specs.DeclarationRules.{Defining, tentatively, fully}
-use Rattle.typing_rules.specs.UnitRules.{own_parameters, unresolved, nothing_known, no_file}
-use Rattle.typing_rules.specs.Checking.{Checking, Checked, asks, ◌>>=◌}
+use Rattle.typing_rules.specs.UnitRules.{own_parameters, unresolved, nothing_known, no_file, is_extern}
+use Rattle.typing_rules.specs.Checking.{asks, ◌>>=◌}
 use Rattle.typing_rules.specs.Holding.{Holds}
 use Rattle.typing_rules.specs.Exact.{Exact}
-use Rattle.typing_rules.specs.OrderedDeclarations.{or_no_name}
-use Rattle.typing_rules.specs.OrderedUnits.{defines, counted_if, is_extern, defined_tentatively, defined_with, object_defined, declared_at_file, declared_again, declared_as, item_at_file, items_at_file, function_begun, function_defined, externals_of, file_of, binary_of, resolves, program_of, program_alone, checked}
-use Rattle.typing_rules.specs.TypingUnits.{IsDefined, AreCountedIf, IsDefinedTentatively, IsDefinedWith, IsObjectDefined, IsDeclaredAtFile, IsDeclaredAgain, IsDeclaredAs, IsItemAtFile, AreItemsAtFile, IsFunctionBegun, IsFunctionDefined, AreExternals, IsFile, IsBinary, IsProgram, Types}
+use Rattle.typing_rules.specs.OrderedUnits.{defines, counted_if, defined_tentatively, defined_with, object_defined, declared_at_file, declared_as, item_at_file, items_at_file, function_begun, function_defined, externals_of, file_of, binary_of, resolves, program_of, program_alone, checked}
+use Rattle.typing_rules.specs.TypingUnits.{IsDefined, AreCountedIf, IsDefinedTentatively, IsDefinedWith, IsObjectDefined, IsDeclaredAtFile, IsDeclaredAs, IsItemAtFile, AreItemsAtFile, IsFunctionBegun, IsFunctionDefined, AreExternals, IsFile, IsBinary, IsProgram, Types}
 use Rattle.typing_rules.proofs.Exactness.{exact_pure, exact_refuse, exact_asks, exact_makes, exact_bind, exact_needs, exact_tests, exact_choose, exact_given, exact_from_result, err_no_ok, ok_same, allowed_same, refused_no_ok}
 use Rattle.typing_rules.proofs.PartsExact.{exact_counted, exact_counted_type, at_most}
 use Rattle.typing_rules.proofs.DeclaratorsExact.{exact_specified, derived_allows, is_there}
@@ -131,8 +130,9 @@ resolves_ok (Some line) u k l = ((λ e. absurd (err_no_ok (Unresolved line) (u, 
 -- no use is unresolved
 exact_resolves : Exact (asks (λ k. unresolved k.entities k.uses) >>= resolves) (Holds (λ k. unresolved k.entities k.uses ≡ None))
 exact_resolves = record {
-    found = λ u k l e. (resolves_ok (unresolved k.entities k.uses) u k l).0 e;
-    whole = λ u k l q. (resolves_ok (unresolved k.entities k.uses) u k l).1 q }
+  found = λ u k l e. (resolves_ok (unresolved k.entities k.uses) u k l).0 e;
+  whole = λ u k l q. (resolves_ok (unresolved k.entities k.uses) u k l).1 q;
+}
 
 exact_program : (main : SourceUnit) (binary : Option SourceUnit) → Exact (program_of main binary) (IsProgram main binary)
 exact_program main binary =
@@ -158,6 +158,7 @@ pub one_typing_of : (main : SourceUnit) (binary : Option SourceUnit) (p q : t.Pr
 one_typing_of main binary p q h k =
     allowed_same p q (sym ((typing_is_exact_of main binary p).1 h) ∙ (typing_is_exact_of main binary q).1 k)
 
-pub refused_has_no_typing : (main : SourceUnit) (binary : Option SourceUnit) (refusal : TypeRefusal) (p : t.Program) → checked main binary ≡ Err refusal → Types main binary p → ⊥
+pub refused_has_no_typing : (main : SourceUnit) (binary : Option SourceUnit) (refusal : TypeRefusal) (p : t.Program) → checked main binary ≡ Err
+    refusal → Types main binary p → ⊥
 refused_has_no_typing main binary refusal p e h =
     refused_no_ok refusal p (sym e ∙ (typing_is_exact_of main binary p).1 h)

@@ -1,5 +1,5 @@
 -- Checking in order: what is known before gives a result and what is known after, or the first refusal.
-use Rattle.std.specs.Prelude.{◌≡◌, ℕ, Bool as Test, true, false, if◌then◌else◌, Option, Some, None, Result, Ok, Err}
+use Rattle.std.specs.Prelude.{ℕ, Bool as Test, if◌then◌else◌, Option, Some, None, Result, Ok, Err}
 use Rattle.c_types.specs.Rules.{Ruled}
 use Rattle.typing_rules.specs.declared.refusal.TypeRefusal.{TypeRefusal}
 use Rattle.typing_rules.specs.declared.refusal.TypeRefusal.TheVariants.{Mismatch}

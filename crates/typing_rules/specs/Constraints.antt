@@ -1,6 +1,6 @@
 -- The constraints on the types of operands (C11 6.5), with what they make of them. Each says which cases there are, in
 -- no order.
-use Rattle.std.specs.Prelude.{◌≡◌, ℕ, ◌⊎◌, Bool as Test, true, false, IsTrue}
+use Rattle.std.specs.Prelude.{◌≡◌, ◌⊎◌, Bool as Test, IsTrue}
 use Rattle.srmt_base.specs.declared.ty.Ty.{Ty}
 use Rattle.srmt_base.specs.declared.ty.Ty.TheVariants.{Bool, UInt}
 use Rattle.srmt_base.specs.declared.op.Op.{Op}
@@ -13,7 +13,7 @@ use Rattle.c_types.specs.declared.form.Conversion.{Conversion}
 use Rattle.c_types.specs.declared.form.Conversion.TheVariants as to
 use Rattle.c_types.specs.Types.{CType, void, integer, Qualified, has_each, is_void, is_integer, is_pointer, is_scalar, is_complete, ty_of, target_of, is_object_pointer, is_complete_pointer, is_function_pointer, point_to_one}
 use Rattle.c_types.specs.Conversions.{promoted, usual}
-use Rattle.c_types.specs.Rules.{Operand, is_modifiable}
+use Rattle.c_types.specs.Rules.{Operand}
 
 -- ---- operators on integers
 
@@ -134,7 +134,8 @@ BecomesNull target from f = IsTrue (is_pointer target) × IsTrue from.is_null ×
 
 abbrev pub BecomesPointer : CType → Operand → Conversion → Type 0
 BecomesPointer target from f =
-    IsTrue (is_pointer target) × IsTrue (point_to_one from.type target) × IsTrue (has_each (target_of from.type).qualifiers (target_of target).qualifiers) × (f ≡ to.Pointer)
+    IsTrue (is_pointer target) × IsTrue (point_to_one from.type target) × IsTrue
+    (has_each (target_of from.type).qualifiers (target_of target).qualifiers) × (f ≡ to.Pointer)
 
 abbrev pub Converts : CType → Operand → Conversion → Type 0
 Converts target from f =

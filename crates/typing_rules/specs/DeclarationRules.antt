@@ -1,9 +1,9 @@
 -- Linkage and definitions of objects and functions (C11 6.2.2, 6.9.2), and shapes of initializers (C11 6.7.9).
-use Rattle.std.specs.Prelude.{ℕ, zero, suc, ◌+◌, ◌==◌, nat_le, Bool as Test, true, false, not, ◌&&◌, ◌||◌, if◌then◌else◌, List, [], ◌∷◌, ◌++◌, length, Option, Some, None, is_some}
+use Rattle.std.specs.Prelude.{ℕ, suc, nat_le, Bool as Test, true, false, if◌then◌else◌, List, [], ◌∷◌, ◌++◌, length, Option, Some, None}
 use Rattle.srmt_base.specs.declared.ty.Ty.{Ty}
 use Rattle.srmt_base.specs.declared.ty.Ty.TheVariants.{Bool, Char, SChar, UChar, Short, UShort, Int, UInt}
 use Rattle.srmt_base.specs.Convert.{convert_of}
-use Rattle.c_types.specs.Types.{CType, void, integer, pointer, array, returning, taking, Qualified, same_test, is_array, is_function, is_complete, composite, may_be_one}
+use Rattle.c_types.specs.Types.{CType, void, integer, pointer, array, returning, taking, Qualified, same_test, is_array, is_function, composite, may_be_one}
 use Rattle.c_typed.specs.Typed.{Value}
 use Rattle.c_typed.specs.declared.program.Start.{Start}
 use Rattle.c_typed.specs.declared.program.Start.TheVariants as start
@@ -14,7 +14,7 @@ use Rattle.typing_rules.specs.Source.{Bytes, Expr, at, name, number, character, 
 use Rattle.typing_rules.specs.SourceUnits.{Initial, single, braced, Initials, no_initials, first_initial}
 use Rattle.typing_rules.specs.Known.{Known, File, same_file, Definition, undefined, tentative, defined, Entity, entity_at, Linked, external_from, with_entities, with_entity_at}
 use Rattle.typing_rules.specs.SpecifierRules.{Storage, no_word, static_word, extern_word}
-use Rattle.typing_rules.specs.Terms.{Written, converted, number_value}
+use Rattle.typing_rules.specs.Terms.{converted, number_value}
 
 -- ---- linkage
 
@@ -210,3 +210,8 @@ starts_of (c ∷ rest) = record { index = c.index; start = or_zero (start_of c.v
 abbrev pub is_past : Option ℕ → ℕ → Test
 is_past None i = false
 is_past (Some n) i = nat_le n i
+
+-- an initializer, with the type that it completes
+pub record Initialized : Type 0 where
+  pub type : Qualified
+  pub given : List Cell

@@ -1,5 +1,5 @@
 -- What a declarator makes of the type of its specifiers (C11 6.7.6).
-use Rattle.std.specs.Prelude.{ℕ, ◌==◌, nat_le, nat_lt, Bool as Test, true, false, not, ◌&&◌, ◌||◌, if◌then◌else◌, List, [], ◌∷◌, map, length, Option, Some, None, Result, Ok, Err, is_none}
+use Rattle.std.specs.Prelude.{ℕ, nat_le, nat_lt, Bool as Test, true, false, not, ◌&&◌, ◌||◌, if◌then◌else◌, List, [], ◌∷◌, map, length, Option, Some, None, option_map, Result, Ok, Err}
 use Rattle.c_types.specs.declared.qualifiers.Qualifiers.{Qualifiers}
 use Rattle.c_types.specs.Types.{CType, Qualified, unqualified, is_void, is_integer, is_array, is_function, is_complete, pointer_to, array_of, function_of, cells_of, adjusted}
 use Rattle.c_types.specs.Rules.{Ruled}
@@ -12,7 +12,7 @@ use Rattle.c_typed.specs.Constants.{constant_of}
 use Rattle.typing_rules.specs.declared.refusal.TypeRefusal.{TypeRefusal}
 use Rattle.typing_rules.specs.declared.refusal.TypeRefusal.TheVariants.{Mismatch, TooLarge}
 use Rattle.typing_rules.specs.declared.refusal.Size.TheVariants.{Params, Cells}
-use Rattle.typing_rules.specs.Source.{Named, Specifiers, Declarator, declarator, Parts, no_parts, pointer_part, array_part, unsized_part, function_part, Parameters, no_parameters, first_parameter}
+use Rattle.typing_rules.specs.Source.{Named, Declarator, declarator, Parts, no_parts, pointer_part, array_part, unsized_part, function_part, Parameters, no_parameters, first_parameter}
 use Rattle.typing_rules.specs.Known.{Local}
 use Rattle.typing_rules.specs.Limits.{most_parameters, most_cells}
 use Rattle.typing_rules.specs.SpecifierRules.{same_word}
@@ -139,3 +139,26 @@ derived at is_adjusted base (d ∷ ds) = derived_from (derived at false base ds)
 abbrev pub parameter_of : Lines → Result Qualified TypeRefusal → Result Qualified TypeRefusal
 parameter_of at (Err refusal) = Err refusal
 parameter_of at (Ok t) = if is_void t.type then Err (Mismatch at.rules 14) else Ok (adjusted t)
+
+abbrev pub parameter_local : Declarator → ℕ → Qualified → Local
+parameter_local d specifiers type =
+    record {
+      name = option_map (λ n. n.bytes) (name_of d);
+      line = (lines_of d specifiers).rules;
+      first = first_of_declarator d;
+      type = type;
+      is_addressed = false;
+    }
+
+-- ---- locals
+
+abbrev pub new_local : Named → ℕ → Qualified → Local
+new_local name first type = record { name = Some name.bytes; line = name.line; first = first; type = type; is_addressed = false }
+
+-- the name of a declarator that declares something; it is always there in a declaration
+abbrev pub no_name : Named
+no_name = record { line = 0; bytes = [] }
+
+abbrev pub or_no_name : Option Named → Named
+or_no_name None = no_name
+or_no_name (Some name) = name

@@ -10,15 +10,15 @@ use Rattle.typing_rules.specs.Known as known
 use Rattle.typing_rules.specs.Known.{Known, Meaning, Local, innermost, found_in}
 use Rattle.typing_rules.specs.Limits.{most_parameters, most_cells}
 use Rattle.typing_rules.specs.SpecifierRules.{Specified, storage_fits, storage_in, qualifiers_in, named_by, namings}
-use Rattle.typing_rules.specs.DeclaratorRules.{Derivation, to_pointer, to_array, to_function, name_of, is_empty_list, fits_cells, parameter_type}
-use Rattle.typing_rules.specs.OrderedParts.{parameter_local}
+use Rattle.typing_rules.specs.DeclaratorRules.{Derivation, to_pointer, to_array, to_function, name_of, is_empty_list, fits_cells, parameter_type, parameter_local}
 use Rattle.typing_rules.specs.Holding.{Typing, ◌>>=◌, ◌>>◌, Is, Such, Holds, Asks, Makes, Either}
 
 -- specifiers name one type, and have storage words only where these may stand (C11 6.7.1p2, 6.7.2p2)
 abbrev pub Says : Test → List SpecifierWord → Specified → Type 0
 Says may_store words s =
     IsTrue (storage_fits may_store words) ×
-    ((t : CType) × (named_by words namings ≡ Some t) × (s ≡ record { storage = storage_in words; type = record { qualifiers = qualifiers_in words; type = t } }))
+    ((t : CType) × (named_by words namings ≡ Some t) × (s ≡ record
+    { storage = storage_in words; type = record { qualifiers = qualifiers_in words; type = t } }))
 
 abbrev pub AreSpecified : Test → Specifiers → Typing Specified
 AreSpecified may_store s = Such (Says may_store s.words)

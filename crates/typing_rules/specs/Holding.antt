@@ -1,5 +1,5 @@
 -- Relations of typing: a result, with what is known before and after it.
-use Rattle.std.specs.Prelude.{◌≡◌, ℕ, ◌⊎◌, Bool as Test, true, false, IsTrue, IsFalse}
+use Rattle.std.specs.Prelude.{◌≡◌, ◌⊎◌, Bool as Test, IsTrue, IsFalse}
 use Rattle.typing_rules.specs.Known.{Known}
 
 abbrev pub Typing : Type 0 → Type 1

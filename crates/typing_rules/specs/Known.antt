@@ -1,7 +1,7 @@
 -- What is known at a place of a program: what the names before it mean, and what the program has so far.
-use Rattle.std.specs.Prelude.{ℕ, zero, suc, ◌+◌, ◌==◌, Bool as Test, true, false, ◌&&◌, ◌||◌, if◌then◌else◌, List, [], ◌∷◌, ◌++◌, length, Option, Some, None, slice_get, slice_set, bytes_eq}
+use Rattle.std.specs.Prelude.{ℕ, suc, ◌+◌, ◌==◌, Bool as Test, true, false, ◌&&◌, ◌||◌, if◌then◌else◌, List, [], ◌∷◌, ◌++◌, Option, Some, None, slice_get, slice_set, bytes_eq}
 use Rattle.srmt_base.specs.declared.ty.Ty.TheVariants.{Int}
-use Rattle.c_types.specs.Types.{CType, void, integer, Qualified, unqualified, plain, function_of, is_array, same_type}
+use Rattle.c_types.specs.Types.{CType, void, integer, Qualified, unqualified, function_of, is_array, same_type}
 use Rattle.c_typed.specs.declared.program.StartCell.{StartCell}
 use Rattle.c_typed.specs.declared.program.TextObject.{TextObject}
 use Rattle.typing_rules.specs.Source.{Bytes}

@@ -1,26 +1,40 @@
--- Read in this order: Source, Known, Ordered.
+-- What it means that a program is typed, twice. Read in this order.
+--
+-- What both speak of: the syntax trees as plain data (Source, SourceUnits; SourceViews makes them of the parser's
+-- trees); the typed trees as plain data (Typed, Constants, Starts, Statements of the crate of typed trees); what is
+-- known at a place of a program (Known) and the limits (Limits); how typed nodes are made of their parts (Terms); what
+-- specifiers, declarators, declarations and files make (SpecifierRules, DeclaratorRules, DeclarationRules, UnitRules).
+--
+-- The typing relation: its combinators (Holding), the constraints on types (Constraints), then a case for each
+-- construct (TypingParts, Declarators, Typing; TypingDeclarations; TypingStatements; TypingUnits, which ends in Types).
+--
+-- The ordered function: its combinators (Checking), then the same constructs with their refusals in order
+-- (OrderedParts, Ordered; OrderedDeclarations; OrderedStatements; OrderedUnits, which ends in checked).
+--
+-- Exact says that the two are one, part by part; Laws says what holds of every typed program.
 pub mod Source
 pub mod SourceUnits
-pub mod Known
 pub mod SourceViews
+pub mod Known
 pub mod Limits
-pub mod Checking
-pub mod Holding
 pub mod Terms
 pub mod SpecifierRules
 pub mod DeclaratorRules
 pub mod DeclarationRules
-pub mod OrderedParts
-pub mod Ordered
-pub mod Exact
+pub mod UnitRules
+pub mod Holding
 pub mod Constraints
 pub mod TypingParts
 pub mod Declarators
 pub mod Typing
-pub mod OrderedDeclarations
-pub mod OrderedStatements
-pub mod UnitRules
-pub mod OrderedUnits
 pub mod TypingDeclarations
 pub mod TypingStatements
 pub mod TypingUnits
+pub mod Checking
+pub mod OrderedParts
+pub mod Ordered
+pub mod OrderedDeclarations
+pub mod OrderedStatements
+pub mod OrderedUnits
+pub mod Exact
+pub mod Laws

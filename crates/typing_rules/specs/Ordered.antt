@@ -1,21 +1,16 @@
 -- The ordered function on expressions: the typed expression, or the first refusal. Operands come before operators,
 -- from left to right; the rules of one operator stand beside one another, the least first.
-use Rattle.std.specs.Prelude.{ℕ, Bool as Test, true, false, List, [], ◌∷◌, Option, Some, None}
+use Rattle.std.specs.Prelude.{ℕ, true, false, List, [], ◌∷◌, Some, None}
 use Rattle.srmt_base.specs.declared.ty.Ty.TheVariants.{Int}
-use Rattle.srmt_base.specs.declared.op.Op.{Op}
 use Rattle.srmt_base.specs.declared.op.Op.TheVariants.{Add, Sub}
 use Rattle.c_types.specs.Types.{Qualified}
 use Rattle.c_tree.specs.declared.operator.PrefixOp.TheVariants as pre
 use Rattle.c_tree.specs.declared.operator.PostfixOp.TheVariants as post
-use Rattle.c_typed.specs.Typed.{Value, value, Values, no_values, first_value, type_of, sequence}
-use Rattle.typing_rules.specs.Source.{Expr, at, name, number, character, text, parenthesized, index, call, prefix, postfix, sizeof_expr, sizeof_type, cast, binary, conjunction, disjunction, choice, assignment, compound, comma, Exprs, no_exprs, first_expr, TypeName, type_name, Declarator, declarator, Parts, no_parts, pointer_part, array_part, unsized_part, function_part, Parameters, no_parameters, first_parameter, Specifiers, line_of}
-use Rattle.typing_rules.specs.Terms.{Term, object, result, Written, number_value, one_value, Change, sequence_of}
-use Rattle.typing_rules.specs.DeclaratorRules.{Derivation, to_pointer, to_array, to_function, Lines, lines_of, lines_at, length_of, derived}
+use Rattle.typing_rules.specs.Source.{Expr, at, name, number, character, text, parenthesized, index, call, prefix, postfix, sizeof_expr, sizeof_type, cast, binary, conjunction, disjunction, choice, assignment, compound, comma, Exprs, no_exprs, first_expr, TypeName, type_name, Declarator, declarator, Parts, no_parts, pointer_part, array_part, unsized_part, function_part, Parameters, no_parameters, first_parameter, line_of}
+use Rattle.typing_rules.specs.Terms.{Term, result, Written, number_value, one_value, Change, sequence_of, change_by}
+use Rattle.typing_rules.specs.DeclaratorRules.{Derivation, to_pointer, to_array, to_function, Lines, lines_of, length_of, derived}
 use Rattle.typing_rules.specs.Checking.{Checking, ◌>>=◌, ◌>>◌, pure, ruled_by, from_result}
-use Rattle.typing_rules.specs.OrderedParts.{valued, written, named, text_term, indexed, indirect, address_of, opposite, promoted, negative, complemented, computed, conjoined, disjoined, chosen, target_of, assigned, changed, cast_to, unvalued, sized, called, call_of, specified, parameter, parameter_list}
-
-abbrev pub change_by : Test → ℕ → Op → ℕ → Change
-change_by is_after first op where_to = record { is_after = is_after; first = first; op = op; at = where_to }
+use Rattle.typing_rules.specs.OrderedParts.{written, named, text_term, indexed, indirect, address_of, opposite, promoted, negative, complemented, computed, conjoined, disjoined, chosen, target_of, assigned, changed, cast_to, unvalued, sized, called, call_of, specified, parameter, parameter_list}
 
 -- `++` and `--`, whose 1 has the line of the whole expression
 abbrev pub stepped : ℕ → Change → Checking Term → Checking Term

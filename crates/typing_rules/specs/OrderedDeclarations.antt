@@ -1,21 +1,20 @@
 -- The ordered function on declarations and initializers.
-use Rattle.std.specs.Prelude.{ℕ, suc, ◌+◌, nat_le, Bool as Test, true, false, not, ◌&&◌, ◌||◌, List, [], ◌∷◌, ◌++◌, length, Option, Some, None, is_some, is_none, option_map}
-use Rattle.c_types.specs.Types.{CType, void, integer, pointer, array, returning, taking, Qualified, is_void, is_function, is_complete, is_array, ty_of, cells_of, same_type}
+use Rattle.std.specs.Prelude.{ℕ, suc, ◌+◌, nat_le, Bool as Test, false, not, ◌||◌, List, [], ◌∷◌, ◌++◌, length, Option, Some, None, is_some, is_none}
+use Rattle.c_types.specs.Types.{CType, void, integer, pointer, array, returning, taking, Qualified, is_void, is_function, is_complete, ty_of, cells_of, same_type}
 use Rattle.c_types.specs.Rules.{conversion_form}
 use Rattle.c_typed.specs.Starts.{start_of}
 use Rattle.c_typed.specs.Statements.{Cell, Initializer, LocalItem}
-use Rattle.typing_rules.specs.declared.refusal.TypeRefusal.{TypeRefusal}
 use Rattle.typing_rules.specs.declared.refusal.TypeRefusal.TheVariants.{Twice, Mismatch, TooLarge}
 use Rattle.typing_rules.specs.declared.refusal.Size.TheVariants.{Cells}
-use Rattle.typing_rules.specs.Source.{Bytes, Named, Expr, Exprs, line_of, Specifiers, Declarator}
+use Rattle.typing_rules.specs.Source.{Named, Expr, line_of}
 use Rattle.typing_rules.specs.SourceUnits.{Initial, single, braced, Initials, no_initials, first_initial, Item, Declaration}
 use Rattle.typing_rules.specs.Known as known
 use Rattle.typing_rules.specs.Known.{Known, Linked, Local, Meaning, Predeclared, entity_at, earlier, all_scopes, innermost, found_in, predeclared_scope, type_of_predeclared}
 use Rattle.typing_rules.specs.Limits.{most_cells}
 use Rattle.typing_rules.specs.Terms.{Written, operand_of, converted_by}
-use Rattle.typing_rules.specs.SpecifierRules.{Storage, no_word, Specified}
-use Rattle.typing_rules.specs.DeclaratorRules.{Derivation, Lines, lines_of, name_of, first_of_declarator, derived}
-use Rattle.typing_rules.specs.DeclarationRules.{linkage, entity_of, agrees_before, agrees_with, has_linkage, number_of, type_known, declared_entity, TextAt, text_for, text_cells, text_fits, byte_cells, completed, initializer_of, is_past}
+use Rattle.typing_rules.specs.SpecifierRules.{Storage, no_word}
+use Rattle.typing_rules.specs.DeclaratorRules.{lines_of, name_of, first_of_declarator, derived, new_local, or_no_name}
+use Rattle.typing_rules.specs.DeclarationRules.{linkage, entity_of, agrees_before, agrees_with, has_linkage, number_of, type_known, declared_entity, TextAt, text_for, text_cells, text_fits, byte_cells, completed, initializer_of, is_past, Initialized}
 use Rattle.typing_rules.specs.Checking.{Checking, ◌>>=◌, ◌>>◌, pure, refuse, asks, makes, choose, needs, tests, ruled_by, from_result}
 use Rattle.typing_rules.specs.OrderedParts.{written, specified, declares}
 use Rattle.typing_rules.specs.Ordered.{term_of, derivations_of}
@@ -95,11 +94,6 @@ unfoldable mutual
     others ← items_given is_static at t n (suc i) (index + cells_of t) rest
     pure (first ++ others))
 
--- an initializer, with the type that it completes
-pub record Initialized : Type 0 where
-  pub type : Qualified
-  pub given : List Cell
-
 abbrev pub initialized : Test → ℕ → Qualified → Initial → Checking Initialized
 initialized is_static at type x = do
   given ← cells_given is_static at type.type 0 x
@@ -147,9 +141,6 @@ local_initialized at n type (Some x) = do
   makes (known.local_completed n done.type)
   pure (initializer_of done.type.type done.given)
 
-abbrev pub new_local : Named → ℕ → Qualified → Local
-new_local name first type = record { name = Some name.bytes; line = name.line; first = first; type = type; is_addressed = false }
-
 -- an object in a block is a local, known from its declarator on (C11 6.2.1p7)
 abbrev pub object_in_block : Named → ℕ → Qualified → Option Initial → Checking (List LocalItem)
 object_in_block name first type x = do
@@ -161,20 +152,13 @@ object_in_block name first type x = do
   i ← local_initialized name.line n type x
   pure (record { number = n; initializer = i } ∷ [])
 
-abbrev pub no_name : Named
-no_name = record { line = 0; bytes = [] }
-
-abbrev pub or_no_name : Option Named → Named
-or_no_name None = no_name
-or_no_name (Some name) = name
-
 abbrev pub item_in_block : Qualified → ℕ → Item → Checking (List LocalItem)
 item_in_block base specifiers x = do
   ds ← derivations_of (lines_of x.declarator specifiers) x.declarator
   type ← from_result (derived (lines_of x.declarator specifiers) false base ds)
   choose (is_function type.type)
-    (function_in_block (or_no_name (name_of x.declarator)) type x.initial)
-    (object_in_block (or_no_name (name_of x.declarator)) (first_of_declarator x.declarator) type x.initial)
+      (function_in_block (or_no_name (name_of x.declarator)) type x.initial)
+      (object_in_block (or_no_name (name_of x.declarator)) (first_of_declarator x.declarator) type x.initial)
 
 abbrev pub items_in_block : Qualified → ℕ → List Item → Checking (List LocalItem)
 items_in_block base specifiers [] = pure []

@@ -1,21 +1,19 @@
 -- The ordered function on what expressions are made of, apart from its recursion on them.
-use Rattle.std.specs.Prelude.{ℕ, suc, ◌+◌, ◌==◌, nat_le, Bool as Test, true, false, not, List, [], ◌∷◌, length, drop, take, Option, Some, None, is_none, option_map}
-use Rattle.srmt_base.specs.declared.ty.Ty.{Ty}
+use Rattle.std.specs.Prelude.{ℕ, suc, ◌+◌, ◌==◌, nat_le, Bool as Test, true, false, List, [], ◌∷◌, length, drop, take, Option, Some, None, is_none}
 use Rattle.srmt_base.specs.declared.ty.Ty.TheVariants.{Int}
 use Rattle.srmt_base.specs.declared.op.Op.{Op}
-use Rattle.c_types.specs.Types.{CType, Qualified, integer, plain, pointer, is_function, parameters_of, result_of, pointer_to, is_void}
+use Rattle.c_types.specs.Types.{CType, Qualified, integer, plain, pointer, parameters_of, result_of, pointer_to}
 use Rattle.c_types.specs.Rules.{conversion_form, callee_type, indirection_type, index_form, binary_form, tested_type, unary_type, choice_form, assignment_form, update_form, cast_type, sizeof_type}
 use Rattle.c_typed.specs.Typed as t
 use Rattle.c_typed.specs.Typed.{Place, place, PlaceNode, Value, value, Values, no_values, first_value, type_of, place_type}
-use Rattle.typing_rules.specs.declared.refusal.TypeRefusal.{TypeRefusal}
 use Rattle.typing_rules.specs.declared.refusal.TypeRefusal.TheVariants.{Unknown, Twice, Mismatch, TooLarge}
 use Rattle.typing_rules.specs.declared.refusal.Size.TheVariants.{Cells, Statics, Types}
 use Rattle.typing_rules.specs.Source.{Bytes, Named, Specifiers, Declarator, Parameters}
 use Rattle.typing_rules.specs.Known as known
 use Rattle.typing_rules.specs.Known.{Known, Meaning, Local, Predeclared, Entity, meaning_of, innermost, found_in, local_at, entity_at, is_main, type_of_predeclared}
 use Rattle.typing_rules.specs.Limits.{most_cells, most_static_cells, most_types}
-use Rattle.typing_rules.specs.Terms.{Term, object, result, designator, Designated, entity, predeclared, through, Written, written_type, operand_of, number_value, value_at, converted, promoted_value, converted_by, binary_value, negated_value, minus_value, complement_value, choice_value, element_place, Target, may_change, Change, changed_value, assigned_value, cast_value, sizeof_value, predeclared_node, text_type}
-use Rattle.typing_rules.specs.DeclaratorRules.{Derivation, Lines, lines_of, name_of, first_of_declarator, is_empty_list, derived, parameter_of}
+use Rattle.typing_rules.specs.Terms.{Term, object, result, designator, Designated, entity, predeclared, through, Written, written_type, operand_of, number_value, value_at, converted, converted_by, binary_value, negated_value, minus_value, complement_value, choice_value, element_place, Target, may_change, Change, changed_value, assigned_value, cast_value, sizeof_value, predeclared_node, text_type, linked_term, pointed_term}
+use Rattle.typing_rules.specs.DeclaratorRules.{Derivation, lines_of, name_of, is_empty_list, derived, parameter_of, parameter_local}
 use Rattle.typing_rules.specs.SpecifierRules.{Specified, specified_by}
 use Rattle.typing_rules.specs.Checking.{Checking, ◌>>=◌, ◌>>◌, pure, refuse, asks, makes, choose, needs, tests, ruled_by, given, from_result}
 
@@ -41,13 +39,6 @@ written first m = do
   pure (record { first = first; value = v })
 
 -- ---- names and texts
-
-abbrev pub linked_term : ℕ → ℕ → Qualified → Test → Term
-linked_term line n type main = linked_as (is_function type.type)
-  where
-    linked_as : Test → Term
-    linked_as true = designator line (entity n main) type.type
-    linked_as false = object (place line type (t.static n))
 
 abbrev pub meant : ℕ → Option Meaning → Checking Term
 meant line None = refuse (Unknown line)
@@ -82,13 +73,6 @@ abbrev pub indexed : ℕ → ℕ → Written → Written → Checking Term
 indexed line at a b = do
   form ← ruled_by at (index_form (written_type a) (written_type b))
   pure (object (element_place line at form a b))
-
-abbrev pub pointed_term : ℕ → Value → Qualified → Term
-pointed_term line v to = pointed_as (is_function to.type)
-  where
-    pointed_as : Test → Term
-    pointed_as true = designator line (through v) to.type
-    pointed_as false = object (place line to (t.pointed v))
 
 abbrev pub indirect : ℕ → Written → Checking Term
 indirect line a = do
@@ -265,10 +249,6 @@ declares name m = do
 abbrev pub named_local : Option Named → ℕ → Checking (Unit {0})
 named_local None n = pure tt
 named_local (Some name) n = declares name (known.local n)
-
-abbrev pub parameter_local : Declarator → ℕ → Qualified → Local
-parameter_local d specifiers type =
-    record { name = option_map (λ n. n.bytes) (name_of d); line = (lines_of d specifiers).rules; first = first_of_declarator d; type = type; is_addressed = false }
 
 abbrev pub parameter : Specifiers → Qualified → Declarator → List Derivation → Checking (Unit {0})
 parameter s base d ds = do

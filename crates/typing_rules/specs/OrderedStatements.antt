@@ -1,14 +1,14 @@
 -- The ordered function on statements.
-use Rattle.std.specs.Prelude.{ℕ, Bool as Test, true, false, List, [], ◌∷◌, Option, Some, None}
+use Rattle.std.specs.Prelude.{ℕ, Bool as Test, true, Option, Some, None}
 use Rattle.c_types.specs.Types.{CType, is_void}
 use Rattle.c_types.specs.Rules.{tested_type, conversion_form}
 use Rattle.c_typed.specs.Typed.{Value}
 use Rattle.c_typed.specs.Statements as t
 use Rattle.typing_rules.specs.declared.refusal.TypeRefusal.TheVariants.{Mismatch}
 use Rattle.typing_rules.specs.Source.{Expr}
-use Rattle.typing_rules.specs.SourceUnits.{Declaration, ForStart, starts, declares, Stmt, block, empty, expression, if_only, if_else, while, do_while, for, continue, break, return, Items, no_items, declaration, statement}
+use Rattle.typing_rules.specs.SourceUnits.{ForStart, starts, declares, Stmt, block, empty, expression, if_only, if_else, while, do_while, for, continue, break, return, Items, no_items, declaration, statement}
 use Rattle.typing_rules.specs.Known as known
-use Rattle.typing_rules.specs.Terms.{Written, operand_of, written_type, converted_by}
+use Rattle.typing_rules.specs.Terms.{operand_of, written_type, converted_by}
 use Rattle.typing_rules.specs.Checking.{Checking, ◌>>=◌, ◌>>◌, pure, refuse, makes, choose, needs, ruled_by}
 use Rattle.typing_rules.specs.OrderedDeclarations.{value_of, declared_in_block}
 

@@ -6,18 +6,18 @@ use Rattle.typing_rules.specs.declared.refusal.TypeRefusal.{TypeRefusal}
 use Rattle.typing_rules.specs.declared.refusal.TypeRefusal.TheVariants.{Twice, Mismatch, NoMain, Unresolved, TooLarge}
 use Rattle.typing_rules.specs.declared.refusal.Size.TheVariants.{Functions}
 use Rattle.typing_rules.specs.Source.{Named}
-use Rattle.typing_rules.specs.SourceUnits.{Initial, Item, Declaration, Definition, External, function, declaration_of, Unit as SourceUnit}
+use Rattle.typing_rules.specs.SourceUnits.{Initial, Item, Definition, function, declaration_of, Unit as SourceUnit}
 use Rattle.typing_rules.specs.Known as known
 use Rattle.typing_rules.specs.Known.{Known, Linked, Meaning, Predeclared, entity_at, found_in, predeclared_scope, type_of_predeclared}
 use Rattle.typing_rules.specs.Limits.{most_functions}
-use Rattle.typing_rules.specs.SpecifierRules.{Storage, no_word, static_word, extern_word}
-use Rattle.typing_rules.specs.DeclaratorRules.{lines_of, name_of, derived}
-use Rattle.typing_rules.specs.DeclarationRules.{Defining, tentatively, fully, may_define, is_undefined, with_definition, composed, starts_of}
-use Rattle.typing_rules.specs.UnitRules.{own_parameters, function_opened, function_closed, row_of, typed_file, no_file, nothing_known, binary_begun, main_from, unresolved}
+use Rattle.typing_rules.specs.SpecifierRules.{Storage}
+use Rattle.typing_rules.specs.DeclaratorRules.{lines_of, name_of, derived, or_no_name}
+use Rattle.typing_rules.specs.DeclarationRules.{Defining, tentatively, fully, may_define, is_undefined, with_definition}
+use Rattle.typing_rules.specs.UnitRules.{own_parameters, function_opened, function_closed, row_of, typed_file, no_file, nothing_known, binary_begun, main_from, unresolved, is_extern, with_contents}
 use Rattle.typing_rules.specs.Checking.{Checking, ◌>>=◌, ◌>>◌, pure, refuse, asks, makes, choose, needs, tests, given, from_result}
 use Rattle.typing_rules.specs.OrderedParts.{specified, counted, counted_type}
 use Rattle.typing_rules.specs.Ordered.{derivations_of}
-use Rattle.typing_rules.specs.OrderedDeclarations.{links, no_initial, initialized, Initialized, or_no_name}
+use Rattle.typing_rules.specs.OrderedDeclarations.{links, no_initial, initialized}
 use Rattle.typing_rules.specs.OrderedStatements.{items_of}
 
 -- an entity is defined; whether it is so for the first time
@@ -34,21 +34,11 @@ counted_if test line type = choose test (counted line (cells_of type.type)) (pur
 
 -- ---- objects
 
-abbrev pub is_extern : Storage → Test
-is_extern no_word = false
-is_extern static_word = false
-is_extern extern_word = true
-
 abbrev pub defined_tentatively : ℕ → Linked → Checking (Unit {0})
 defined_tentatively line l = do
   needs (is_complete l.type.type) (Mismatch line 15)
   first ← defines tentatively line l.entity
   counted_if first line l.type
-
--- what an object of file scope starts with, and the type that this completes
-abbrev pub with_contents : Named → Linked → Initialized → Known → Known
-with_contents name l done k =
-    known.with_file_meaning name.bytes (known.linked l.entity (composed l.type done.type)) (known.with_entity_at l.entity (record (entity_at k.entities l.entity) { type = composed (entity_at k.entities l.entity).type done.type; contents = starts_of done.given }) k)
 
 abbrev pub defined_with : Named → Linked → Qualified → Initial → Checking (Unit {0})
 defined_with name l type x = do
@@ -119,7 +109,16 @@ function_defined d = do
   body ← items_of (result_of type.type) false d.body
   locals ← asks (λ k. k.locals)
   makes function_closed
-  pure (record { entity = n; line = (or_no_name (name_of d.declarator)).line; type = type.type; parameters = length ps; locals = map row_of locals; begin = d.begin; body = body; end = d.end })
+  pure (record {
+    entity = n;
+    line = (or_no_name (name_of d.declarator)).line;
+    type = type.type;
+    parameters = length ps;
+    locals = map row_of locals;
+    begin = d.begin;
+    body = body;
+    end = d.end;
+  })
 
 -- ---- files and programs
 

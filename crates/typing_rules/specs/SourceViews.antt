@@ -28,13 +28,15 @@ use Rattle.c_tree.specs.declared.statement.ForStart.{ForStart as TreeForStart}
 use Rattle.c_tree.specs.declared.statement.ForStart.TheVariants as for_start
 use Rattle.c_tree.specs.declared.statement.BlockItem.{BlockItem-F}
 use Rattle.c_tree.specs.declared.statement.StmtNode.{StmtNode-F}
+use Rattle.c_tree.specs.declared.statement.BlockItem as tree_block_item
+use Rattle.c_tree.specs.declared.statement.StmtNode as tree_stmt_node
 use Rattle.c_tree.specs.declared.statement.Block as tree_block
 use Rattle.c_tree.specs.declared.statement.Stmt as tree_stmt
 use Rattle.c_tree.specs.declared.unit.External.{External as TreeExternal}
 use Rattle.c_tree.specs.declared.unit.External.TheVariants as external
 use Rattle.c_tree.specs.declared.unit.FunctionDefinition.{FunctionDefinition}
 use Rattle.c_tree.specs.declared.unit.Unit.{Unit as TreeUnit}
-use Rattle.typing_rules.specs.Source.{Bytes, Named, Specifiers, Expr, at, Node, name, number, character, text, parenthesized, index, call, prefix, postfix, sizeof_expr, sizeof_type, cast, binary, conjunction, disjunction, choice, assignment, compound, comma, Exprs, no_exprs, first_expr, TypeName, type_name, Declarator, declarator, Parts, no_parts, pointer_part, array_part, unsized_part, function_part, Parameters, no_parameters, first_parameter}
+use Rattle.typing_rules.specs.Source.{Named, Specifiers, Expr, at, Node, name, number, character, text, parenthesized, index, call, prefix, postfix, sizeof_expr, sizeof_type, cast, binary, conjunction, disjunction, choice, assignment, compound, comma, Exprs, no_exprs, first_expr, TypeName, type_name, Declarator, declarator, Parts, no_parts, pointer_part, array_part, unsized_part, function_part, Parameters, no_parameters, first_parameter}
 use Rattle.typing_rules.specs.SourceUnits.{Initial, single, braced, Initials, no_initials, first_initial, Item, Declaration, ForStart, starts, declares, Stmt, block, empty, expression, if_only, if_else, while, do_while, for, continue, break, return, Items, no_items, declaration, statement, Definition, External, function, declaration_of, Unit}
 
 -- ---- lines
@@ -179,31 +181,38 @@ module _ (shift : ℕ → ℕ) where
 
   unfoldable pub expr_view : tree_expr.Expr → Expr
   expr_view =
-      tree_expr.fold-Expr DirectView Node (Parts → Parts) DeclaratorView Expr ParameterView TypeName direct_from node_from suffix_from declarator_from expr_from parameter_from type_name_from
+      tree_expr.fold-Expr DirectView Node (Parts → Parts) DeclaratorView Expr ParameterView TypeName direct_from node_from suffix_from
+      declarator_from expr_from parameter_from type_name_from
 
   unfoldable pub node_view : tree_node.ExprNode → Node
   node_view =
-      tree_node.fold-ExprNode DirectView Node (Parts → Parts) DeclaratorView Expr ParameterView TypeName direct_from node_from suffix_from declarator_from expr_from parameter_from type_name_from
+      tree_node.fold-ExprNode DirectView Node (Parts → Parts) DeclaratorView Expr ParameterView TypeName direct_from node_from suffix_from
+      declarator_from expr_from parameter_from type_name_from
 
   unfoldable pub type_name_view : tree_type_name.TypeName → TypeName
   type_name_view =
-      tree_type_name.fold-TypeName DirectView Node (Parts → Parts) DeclaratorView Expr ParameterView TypeName direct_from node_from suffix_from declarator_from expr_from parameter_from type_name_from
+      tree_type_name.fold-TypeName DirectView Node (Parts → Parts) DeclaratorView Expr ParameterView TypeName direct_from node_from suffix_from
+      declarator_from expr_from parameter_from type_name_from
 
   unfoldable pub direct_view : tree_direct.Direct → DirectView
   direct_view =
-      tree_direct.fold-Direct DirectView Node (Parts → Parts) DeclaratorView Expr ParameterView TypeName direct_from node_from suffix_from declarator_from expr_from parameter_from type_name_from
+      tree_direct.fold-Direct DirectView Node (Parts → Parts) DeclaratorView Expr ParameterView TypeName direct_from node_from suffix_from
+      declarator_from expr_from parameter_from type_name_from
 
   unfoldable pub suffix_view : tree_suffix.Suffix → Parts → Parts
   suffix_view =
-      tree_suffix.fold-Suffix DirectView Node (Parts → Parts) DeclaratorView Expr ParameterView TypeName direct_from node_from suffix_from declarator_from expr_from parameter_from type_name_from
+      tree_suffix.fold-Suffix DirectView Node (Parts → Parts) DeclaratorView Expr ParameterView TypeName direct_from node_from suffix_from
+      declarator_from expr_from parameter_from type_name_from
 
   unfoldable pub parameter_view : tree_parameter.Parameter → ParameterView
   parameter_view =
-      tree_parameter.fold-Parameter DirectView Node (Parts → Parts) DeclaratorView Expr ParameterView TypeName direct_from node_from suffix_from declarator_from expr_from parameter_from type_name_from
+      tree_parameter.fold-Parameter DirectView Node (Parts → Parts) DeclaratorView Expr ParameterView TypeName direct_from node_from suffix_from
+      declarator_from expr_from parameter_from type_name_from
 
   unfoldable pub declarator_view : tree_declarator.Declarator → DeclaratorView
   declarator_view =
-      tree_declarator.fold-Declarator DirectView Node (Parts → Parts) DeclaratorView Expr ParameterView TypeName direct_from node_from suffix_from declarator_from expr_from parameter_from type_name_from
+      tree_declarator.fold-Declarator DirectView Node (Parts → Parts) DeclaratorView Expr ParameterView TypeName direct_from node_from suffix_from
+      declarator_from expr_from parameter_from type_name_from
 
   -- ---- initializers and declarations
 
@@ -254,12 +263,27 @@ module _ (shift : ℕ → ℕ) where
   unfoldable pub stmt_view : tree_stmt.Stmt → Stmt
   stmt_view = tree_stmt.fold-Stmt (Items → Items) (ℕ → Stmt) BlockView Stmt block_item_from stmt_node_from block_view_from stmt_from
 
+  unfoldable pub stmt_node_view : tree_stmt_node.StmtNode → ℕ → Stmt
+  stmt_node_view =
+      tree_stmt_node.fold-StmtNode (Items → Items) (ℕ → Stmt) BlockView Stmt block_item_from stmt_node_from block_view_from stmt_from
+
+  unfoldable pub block_item_view : tree_block_item.BlockItem → Items → Items
+  block_item_view =
+      tree_block_item.fold-BlockItem (Items → Items) (ℕ → Stmt) BlockView Stmt block_item_from stmt_node_from block_view_from stmt_from
+
   unfoldable pub block_view : tree_block.Block → BlockView
   block_view = tree_block.fold-Block (Items → Items) (ℕ → Stmt) BlockView Stmt block_item_from stmt_node_from block_view_from stmt_from
 
   abbrev pub definition_view : FunctionDefinition → Definition
   definition_view d =
-      record { specifiers = specifiers_view d.line d.specifiers; declarator = declarator_of (declarator_view d.declarator); begin = (block_view d.body).line; body = (block_view d.body).items; end = (block_view d.body).end }
+      record {
+        specifiers = specifiers_view d.line d.specifiers;
+        declarator = declarator_of (declarator_view d.declarator);
+        begin =
+            (block_view d.body).line;
+        body = (block_view d.body).items;
+        end = (block_view d.body).end;
+      }
 
   abbrev pub external_view : TreeExternal → External
   external_view (external.Function d) = function (definition_view d)

@@ -1,5 +1,5 @@
 -- Declaration specifiers (C11 6.7.1 to 6.7.3).
-use Rattle.std.specs.Prelude.{◌≡◌, ℕ, suc, ◌+◌, ◌==◌, nat_le, Bool as Test, true, false, not, ◌&&◌, ◌||◌, if◌then◌else◌, List, [], ◌∷◌, length, Option, Some, None, Result, Ok, Err}
+use Rattle.std.specs.Prelude.{ℕ, suc, ◌+◌, ◌==◌, nat_le, Bool as Test, true, false, ◌&&◌, ◌||◌, if◌then◌else◌, List, [], ◌∷◌, Option, Some, None, Ok, Err}
 use Rattle.srmt_base.specs.declared.ty.Ty.TheVariants as ty
 use Rattle.c_types.specs.declared.qualifiers.Qualifiers.{Qualifiers}
 use Rattle.c_types.specs.Types.{CType, void, integer, Qualified}

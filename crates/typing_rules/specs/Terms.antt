@@ -1,7 +1,7 @@
 -- How the nodes of the typed tree are made of their parts. Nothing here tests anything.
 use Rattle.std.specs.Prelude.{ℕ, suc, ◌==◌, Bool as Test, true, false, ◌&&◌, if◌then◌else◌, List, [], ◌∷◌, Option, Some, None}
 use Rattle.srmt_base.specs.declared.ty.Ty.{Ty}
-use Rattle.srmt_base.specs.declared.ty.Ty.TheVariants.{Bool, Int, UInt, Char}
+use Rattle.srmt_base.specs.declared.ty.Ty.TheVariants.{Int, Char}
 use Rattle.srmt_base.specs.declared.op.Op.{Op}
 use Rattle.srmt_base.specs.declared.op.Op.TheVariants.{Add, Sub, Mul, Div, Rem, Shl, Shr, And, Or, Xor, Lt, Gt, Le, Ge, Eq, Ne}
 use Rattle.srmt_base.specs.Types.{ty_code}
@@ -12,10 +12,10 @@ use Rattle.c_types.specs.declared.form.ChoiceForm.{ChoiceForm}
 use Rattle.c_types.specs.declared.form.ChoiceForm.TheVariants as choice_form
 use Rattle.c_types.specs.declared.form.Conversion.{Conversion}
 use Rattle.c_types.specs.declared.form.Conversion.TheVariants as to
-use Rattle.c_types.specs.Types.{CType, void, integer, pointer, Qualified, plain, same_type, is_array, is_void, is_integer, decayed, ty_of, pointer_to, array_of, unqualified, cells_of, bytes_of}
+use Rattle.c_types.specs.Types.{CType, void, integer, Qualified, same_type, is_array, is_void, is_integer, is_function, decayed, ty_of, array_of, unqualified, bytes_of}
 use Rattle.c_types.specs.Conversions.{promoted}
 use Rattle.c_types.specs.Rules.{Operand, binary_type, choice_type, element_of, is_modifiable}
-use Rattle.c_typed.specs.Typed.{Place, place, PlaceNode, text, pointed, element, Value, value, ValueNode, Values, no_values, first_value, constant, null, read, first_element, address, function, minus, complement, negation, arithmetic, sum, difference, comparison, choice, assignment, update, move, conversion, to_bool, requalified, discarded, sequence, putchar, getchar, exit, type_of, start_of, place_type}
+use Rattle.c_typed.specs.Typed.{Place, place, static, pointed, element, Value, value, ValueNode, Values, no_values, first_value, constant, null, read, first_element, minus, complement, negation, arithmetic, sum, difference, comparison, choice, assignment, update, move, conversion, to_bool, requalified, discarded, sequence, putchar, getchar, exit, type_of, start_of, place_type}
 use Rattle.c_typed.specs.Constants.{constant_of, is_zero}
 use Rattle.typing_rules.specs.Known.{Predeclared, the_putchar, the_getchar, the_exit}
 
@@ -226,3 +226,25 @@ values_of (w ∷ ws) = first_value w.value (values_of ws)
 -- operands whose values are dropped, and the last, whose value it is (C11 6.5.17)
 abbrev pub sequence_of : ℕ → List Written → Written → Value
 sequence_of line dropped last = value line (written_type last) (sequence (values_of dropped) last.value)
+
+-- ---- names, `*` and assignments
+
+-- what the name of an entity is: a function designator or an object
+abbrev pub linked_term : ℕ → ℕ → Qualified → Test → Term
+linked_term line n type main = linked_as (is_function type.type)
+  where
+    linked_as : Test → Term
+    linked_as true = designator line (entity n main) type.type
+    linked_as false = object (place line type (static n))
+
+-- what `*` gives: a function designator or an object
+abbrev pub pointed_term : ℕ → Value → Qualified → Term
+pointed_term line v to = pointed_as (is_function to.type)
+  where
+    pointed_as : Test → Term
+    pointed_as true = designator line (through v) to.type
+    pointed_as false = object (place line to (pointed v))
+
+-- a change by an operator
+abbrev pub change_by : Test → ℕ → Op → ℕ → Change
+change_by is_after first op where_to = record { is_after = is_after; first = first; op = op; at = where_to }

@@ -7,11 +7,10 @@ use Rattle.c_types.specs.Types.{Qualified}
 use Rattle.c_tree.specs.declared.operator.PrefixOp.TheVariants as pre
 use Rattle.c_tree.specs.declared.operator.PostfixOp.TheVariants as post
 use Rattle.typing_rules.specs.Source.{Expr, at, name, number, character, text, parenthesized, index, call, prefix, postfix, sizeof_expr, sizeof_type, cast, binary, conjunction, disjunction, choice, assignment, compound, comma, Exprs, no_exprs, first_expr, TypeName, type_name, Declarator, declarator, Parts, no_parts, pointer_part, array_part, unsized_part, function_part, Parameters, no_parameters, first_parameter, line_of}
-use Rattle.typing_rules.specs.Terms.{Term, result, Written, number_value, one_value, Change, sequence_of}
+use Rattle.typing_rules.specs.Terms.{Term, result, Written, number_value, one_value, Change, sequence_of, change_by}
 use Rattle.typing_rules.specs.DeclaratorRules.{Derivation, to_pointer, to_array, to_function}
-use Rattle.typing_rules.specs.Ordered.{change_by}
 use Rattle.typing_rules.specs.Holding.{Typing, ◌>>=◌, ◌>>◌, Is, Such}
-use Rattle.typing_rules.specs.TypingParts.{IsValue, IsWritten, IsNamed, IsText, IsIndexed, IsIndirect, IsAddress, IsOpposite, IsPromoted, IsNegative, IsComplement, IsComputed, IsConjunction, IsDisjunction, IsChosen, IsTarget, IsAssigned, IsChanged, IsCast, IsUnvalued, IsSized, IsCalled, IsCall}
+use Rattle.typing_rules.specs.TypingParts.{IsWritten, IsNamed, IsText, IsIndexed, IsIndirect, IsAddress, IsOpposite, IsPromoted, IsNegative, IsComplement, IsComputed, IsConjunction, IsDisjunction, IsChosen, IsTarget, IsAssigned, IsChanged, IsCast, IsUnvalued, IsSized, IsCalled, IsCall}
 use Rattle.typing_rules.specs.Declarators.{AreSpecified, IsLength, IsDerived, IsParameter, IsParameterList}
 
 -- `++` and `--`

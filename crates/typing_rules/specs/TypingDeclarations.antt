@@ -1,5 +1,5 @@
 -- The typing relation on declarations and initializers (C11 6.2.2, 6.7, 6.7.9).
-use Rattle.std.specs.Prelude.{◌≡◌, ℕ, suc, ◌+◌, ◌≤◌, ◌⊎◌, Bool as Test, true, false, not, ◌||◌, List, [], ◌∷◌, ◌++◌, length, Option, Some, None, IsTrue, IsFalse, IsSome}
+use Rattle.std.specs.Prelude.{◌≡◌, ℕ, suc, ◌+◌, ◌≤◌, ◌⊎◌, Bool as Test, false, List, [], ◌∷◌, ◌++◌, length, Option, Some, None, IsTrue, IsFalse, IsSome}
 use Rattle.c_types.specs.Types.{CType, void, integer, pointer, array, returning, taking, Qualified, is_void, is_function, is_complete, ty_of, cells_of, same_type}
 use Rattle.c_typed.specs.declared.program.Start.{Start}
 use Rattle.c_typed.specs.Starts.{start_of}
@@ -11,11 +11,10 @@ use Rattle.typing_rules.specs.Known.{Known, Linked, Meaning, Predeclared, earlie
 use Rattle.typing_rules.specs.Limits.{most_cells}
 use Rattle.typing_rules.specs.Terms.{Written, operand_of, converted_by}
 use Rattle.typing_rules.specs.SpecifierRules.{Storage, no_word}
-use Rattle.typing_rules.specs.DeclaratorRules.{name_of, first_of_declarator}
-use Rattle.typing_rules.specs.DeclarationRules.{linkage, entity_of, agrees_before, agrees_with, has_linkage, number_of, type_known, declared_entity, TextAt, text_for, text_cells, text_fits, byte_cells, completed, initializer_of, is_past}
+use Rattle.typing_rules.specs.DeclaratorRules.{name_of, first_of_declarator, new_local, or_no_name}
+use Rattle.typing_rules.specs.DeclarationRules.{linkage, entity_of, agrees_before, agrees_with, has_linkage, number_of, type_known, declared_entity, TextAt, text_for, text_cells, text_fits, byte_cells, completed, initializer_of, is_past, Initialized}
 use Rattle.typing_rules.specs.Constraints.{Converts}
 use Rattle.typing_rules.specs.Holding.{Typing, ◌>>=◌, ◌>>◌, Is, Such, Given, Holds, Asks, Makes, Either, Never}
-use Rattle.typing_rules.specs.OrderedDeclarations.{Initialized, new_local, or_no_name}
 use Rattle.typing_rules.specs.TypingParts.{IsWritten}
 use Rattle.typing_rules.specs.Declarators.{AreSpecified, IsDerived, IsDeclared}
 use Rattle.typing_rules.specs.Typing.{IsTerm, AreDerivations}
@@ -148,8 +147,8 @@ IsItemInBlock base x = do
   ds ← AreDerivations x.declarator
   type ← Such (IsDerived false base ds)
   Either (is_function type.type)
-    (IsFunctionInBlock (or_no_name (name_of x.declarator)) type x.initial)
-    (IsObjectInBlock (or_no_name (name_of x.declarator)) (first_of_declarator x.declarator) type x.initial)
+      (IsFunctionInBlock (or_no_name (name_of x.declarator)) type x.initial)
+      (IsObjectInBlock (or_no_name (name_of x.declarator)) (first_of_declarator x.declarator) type x.initial)
 
 abbrev pub AreItemsInBlock : Qualified → List Item → Typing (List LocalItem)
 AreItemsInBlock base [] = Is []

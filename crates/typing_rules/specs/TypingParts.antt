@@ -1,21 +1,17 @@
 -- The typing relation on what expressions are made of, apart from its recursion on them.
-use Rattle.std.specs.Prelude.{◌≡◌, ℕ, suc, ◌+◌, ◌≤◌, ◌<◌, Bool as Test, true, false, List, [], ◌∷◌, length, drop, take, Option, Some, None}
-use Rattle.srmt_base.specs.declared.ty.Ty.{Ty}
+use Rattle.std.specs.Prelude.{◌≡◌, ℕ, suc, ◌+◌, ◌≤◌, ◌<◌, true, false, List, [], ◌∷◌, length, Option, Some, None}
 use Rattle.srmt_base.specs.declared.ty.Ty.TheVariants.{Int}
 use Rattle.srmt_base.specs.declared.op.Op.{Op}
-use Rattle.c_types.specs.Types.{CType, Qualified, integer, plain, pointer, is_function, parameters_of, result_of, pointer_to}
+use Rattle.c_types.specs.Types.{CType, Qualified, integer, plain, pointer, parameters_of, result_of, pointer_to}
 use Rattle.c_typed.specs.Typed as t
 use Rattle.c_typed.specs.Typed.{Place, place, PlaceNode, Value, value, Values, no_values, first_value, type_of, place_type}
-use Rattle.typing_rules.specs.Source.{Bytes, Named, Specifiers, Declarator, Parameters}
+use Rattle.typing_rules.specs.Source.{Bytes}
 use Rattle.typing_rules.specs.Known as known
 use Rattle.typing_rules.specs.Known.{Known, Meaning, Local, meaning_of, innermost, found_in, local_at, entity_at, is_main, type_of_predeclared}
 use Rattle.typing_rules.specs.Limits.{most_cells, most_static_cells, most_types}
-use Rattle.typing_rules.specs.Terms.{Term, object, result, designator, Designated, entity, predeclared, through, Written, written_type, operand_of, number_value, value_at, converted, converted_by, binary_value, negated_value, minus_value, complement_value, choice_value, element_place, Target, may_change, Change, changed_value, assigned_value, cast_value, sizeof_value, predeclared_node, text_type}
-use Rattle.typing_rules.specs.OrderedParts.{linked_term, pointed_term, parameter_local}
-use Rattle.typing_rules.specs.DeclaratorRules.{Derivation, lines_of, name_of, is_empty_list}
-use Rattle.typing_rules.specs.SpecifierRules.{Specified}
+use Rattle.typing_rules.specs.Terms.{Term, object, result, designator, Designated, entity, predeclared, through, Written, written_type, operand_of, number_value, value_at, converted, converted_by, binary_value, negated_value, minus_value, complement_value, choice_value, element_place, Target, may_change, Change, changed_value, assigned_value, cast_value, sizeof_value, predeclared_node, text_type, linked_term, pointed_term}
 use Rattle.typing_rules.specs.Constraints.{Promotes, IsTested, Operates, Updates, Converts, Assigns, Chooses, PointsTo, Indexes, Calls, CastsTo, HasSize}
-use Rattle.typing_rules.specs.Holding.{Typing, ◌>>=◌, ◌>>◌, Is, Such, Given, Holds, Asks, Makes, Either, Never}
+use Rattle.typing_rules.specs.Holding.{Typing, ◌>>=◌, ◌>>◌, Is, Such, Given, Holds, Asks, Makes, Never}
 
 -- ---- values
 

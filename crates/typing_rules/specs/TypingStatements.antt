@@ -1,5 +1,5 @@
 -- The typing relation on statements (C11 6.8): a case for each construct.
-use Rattle.std.specs.Prelude.{ℕ, Bool as Test, true, false, Option, Some, None, IsTrue, IsFalse}
+use Rattle.std.specs.Prelude.{Bool as Test, true, Option, Some, None, IsTrue, IsFalse}
 use Rattle.c_types.specs.Types.{CType, is_void}
 use Rattle.c_typed.specs.Typed.{Value}
 use Rattle.c_typed.specs.Statements as t

@@ -1,18 +1,16 @@
 -- The typing relation on files and programs (C11 6.9).
-use Rattle.std.specs.Prelude.{◌≡◌, ℕ, suc, ◌<◌, Bool as Test, true, false, not, ◌&&◌, List, [], ◌∷◌, length, map, Option, Some, None, IsTrue, IsFalse}
+use Rattle.std.specs.Prelude.{◌≡◌, ℕ, ◌<◌, Bool as Test, true, false, not, ◌&&◌, List, [], ◌∷◌, length, map, Option, Some, None, IsTrue, IsFalse}
 use Rattle.c_types.specs.Types.{Qualified, is_void, is_function, is_complete, same_type, cells_of, result_of, may_be_one}
 use Rattle.c_typed.specs.Statements as t
 use Rattle.typing_rules.specs.Source.{Named}
-use Rattle.typing_rules.specs.SourceUnits.{Initial, Item, Declaration, Definition, External, function, declaration_of, Unit as SourceUnit}
+use Rattle.typing_rules.specs.SourceUnits.{Initial, Item, Definition, function, declaration_of, Unit as SourceUnit}
 use Rattle.typing_rules.specs.Known as known
 use Rattle.typing_rules.specs.Known.{Known, Linked, Meaning, Predeclared, entity_at, found_in, predeclared_scope, type_of_predeclared}
 use Rattle.typing_rules.specs.Limits.{most_functions}
 use Rattle.typing_rules.specs.SpecifierRules.{Storage}
-use Rattle.typing_rules.specs.DeclaratorRules.{name_of}
+use Rattle.typing_rules.specs.DeclaratorRules.{name_of, or_no_name}
 use Rattle.typing_rules.specs.DeclarationRules.{Defining, tentatively, fully, may_define, is_undefined, with_definition}
-use Rattle.typing_rules.specs.UnitRules.{own_parameters, function_opened, function_closed, row_of, typed_file, no_file, nothing_known, binary_begun, main_from, unresolved}
-use Rattle.typing_rules.specs.OrderedUnits.{is_extern, with_contents}
-use Rattle.typing_rules.specs.OrderedDeclarations.{Initialized, or_no_name}
+use Rattle.typing_rules.specs.UnitRules.{own_parameters, function_opened, function_closed, row_of, typed_file, no_file, nothing_known, binary_begun, main_from, unresolved, is_extern, with_contents}
 use Rattle.typing_rules.specs.Holding.{Typing, ◌>>=◌, ◌>>◌, Is, Such, Given, Holds, Asks, Makes, Either, Never}
 use Rattle.typing_rules.specs.TypingParts.{AreCounted, IsCounted}
 use Rattle.typing_rules.specs.Declarators.{AreSpecified, IsDerived}
@@ -107,7 +105,16 @@ IsFunctionDefined d = do
   body ← AreItems (result_of type.type) false d.body
   locals ← Asks (λ k. k.locals)
   Makes function_closed
-  Is (record { entity = n; line = (or_no_name (name_of d.declarator)).line; type = type.type; parameters = length ps; locals = map row_of locals; begin = d.begin; body = body; end = d.end })
+  Is (record {
+    entity = n;
+    line = (or_no_name (name_of d.declarator)).line;
+    type = type.type;
+    parameters = length ps;
+    locals = map row_of locals;
+    begin = d.begin;
+    body = body;
+    end = d.end;
+  })
 
 -- ---- files and programs
 

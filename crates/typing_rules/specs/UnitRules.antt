@@ -1,9 +1,12 @@
 -- What a file and a program have once they are checked (C11 6.9).
-use Rattle.std.specs.Prelude.{ℕ, zero, suc, ◌+◌, ◌==◌, Bool as Test, true, false, not, ◌&&◌, ◌||◌, if◌then◌else◌, List, [], ◌∷◌, ◌++◌, length, map, Option, Some, None, is_some, bytes_eq}
+use Rattle.std.specs.Prelude.{ℕ, suc, ◌+◌, Bool as Test, true, false, not, ◌&&◌, if◌then◌else◌, List, [], ◌∷◌, Option, Some, None, bytes_eq}
 use Rattle.srmt_base.specs.declared.ty.Ty.TheVariants.{Int}
-use Rattle.c_types.specs.Types.{CType, Qualified, integer, function_of, unqualified, is_function, same_type}
+use Rattle.c_types.specs.Types.{integer, function_of, unqualified, is_function, same_type}
 use Rattle.c_typed.specs.Statements as t
-use Rattle.typing_rules.specs.Known.{Known, File, main_file, binary_file, same_file, Definition, undefined, tentative, defined, Entity, First, Local, Use, Scope, Meaning, local, entity_at, is_placed, main_bytes, with_scopes, with_locals}
+use Rattle.typing_rules.specs.DeclarationRules.{composed, starts_of, Initialized}
+use Rattle.typing_rules.specs.SpecifierRules.{Storage, no_word, static_word, extern_word}
+use Rattle.typing_rules.specs.Source.{Named}
+use Rattle.typing_rules.specs.Known.{Known, File, main_file, binary_file, same_file, Definition, undefined, tentative, defined, Entity, First, Local, Use, Scope, local, entity_at, is_placed, main_bytes, with_scopes, with_locals, Linked, linked, with_file_meaning, with_entity_at}
 use Rattle.typing_rules.specs.DeclaratorRules.{Derivation, to_pointer, to_array, to_function}
 
 -- the parameters of a declarator that declares a function, which are those next to its name
@@ -65,11 +68,35 @@ no_file = record { functions = []; statics = []; texts = [] }
 -- before the main file, and before the binary file
 abbrev pub nothing_known : Known
 nothing_known =
-    record { file = main_file; scopes = []; file_scope = []; entities = []; declared = []; locals = []; texts = []; static_cells = 0; functions = 0; types = []; uses = [] }
+    record {
+      file = main_file;
+      scopes = [];
+      file_scope = [];
+      entities = [];
+      declared = [];
+      locals = [];
+      texts = [];
+      static_cells = 0;
+      functions = 0;
+      types = [];
+      uses = [];
+    }
 
 abbrev pub binary_begun : Known → Known
 binary_begun k =
-    record { file = binary_file; scopes = []; file_scope = []; entities = k.entities; declared = []; locals = []; texts = []; static_cells = 0; functions = 0; types = k.types; uses = k.uses }
+    record {
+      file = binary_file;
+      scopes = [];
+      file_scope = [];
+      entities = k.entities;
+      declared = [];
+      locals = [];
+      texts = [];
+      static_cells = 0;
+      functions = 0;
+      types = k.types;
+      uses = k.uses;
+    }
 
 -- ---- programs
 
@@ -97,3 +124,17 @@ abbrev pub unresolved : List Entity → List Use → Option ℕ
 unresolved entities [] = None
 unresolved entities (u ∷ rest) =
     if is_nowhere_defined (entity_at entities u.entity).definition then Some u.line else unresolved entities rest
+
+-- ---- objects
+
+abbrev pub is_extern : Storage → Test
+is_extern no_word = false
+is_extern static_word = false
+is_extern extern_word = true
+
+-- what an object of file scope starts with, and the type that this completes
+abbrev pub with_contents : Named → Linked → Initialized → Known → Known
+with_contents name l done k =
+    with_file_meaning name.bytes (linked l.entity (composed l.type done.type))
+    (with_entity_at l.entity (record (entity_at k.entities l.entity)
+    { type = composed (entity_at k.entities l.entity).type done.type; contents = starts_of done.given }) k)

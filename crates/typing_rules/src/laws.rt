@@ -5,6 +5,7 @@ ghost use Rattle.c_typed.specs.Statements.{Program};
 ghost use Rattle.typing_rules.specs.SourceUnits.{Unit as SourceUnit};
 ghost use Rattle.typing_rules.specs.OrderedUnits.{checked};
 ghost use Rattle.typing_rules.specs.TypingUnits.{Types};
+ghost use Rattle.typing_rules.specs.Laws.{ContentsFit};
 ghost use Rattle.typing_rules.specs.declared.refusal.TypeRefusal.{TypeRefusal as Refusal};
 
 /// The ordered function answers a program exactly where the relation has it.
@@ -20,4 +21,9 @@ pub fn one_typing()
 /// What the ordered function refuses has no typing.
 pub fn refused_has_no_typing()
     ensures { (main : SourceUnit) (binary : Option SourceUnit) (refusal : Refusal) (program : Program) → checked main binary ≡ Err refusal → Types main binary program → ⊥ }
+{}
+
+/// What each static object of a typed program starts with fits its cells.
+pub fn contents_fit()
+    ensures { (main : SourceUnit) (binary : Option SourceUnit) (program : Program) → Types main binary program → ContentsFit program }
 {}
