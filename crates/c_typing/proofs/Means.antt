@@ -2,6 +2,8 @@
 use Rattle.std.proofs.Common.{◌≡◌, ◌≢◌, ℕ, ◌==◌, Bool as Test, true, false, if◌then◌else◌, List, refl, sym, ◌∙◌, ap, subst}
 use Rattle.std.proofs.lemmas.Bool.{eqb-true}
 use Rattle.srmt_base.specs.declared.ty.Ty.{Ty}
+use Rattle.srmt_base.specs.declared.op.Op.{Op}
+use Rattle.srmt_base.specs.Arith.{arith_of}
 use Rattle.srmt_base.specs.Convert.{convert_of}
 use Rattle.c_types.specs.declared.type_ref.Row.{Row}
 use Rattle.c_types.specs.declared.type_ref.TypeRef.{TypeRef}
@@ -14,8 +16,8 @@ use Rattle.c_typed.specs.declared.constant.Constant.{Constant}
 use Rattle.c_typed.specs.declared.constant.Constant.TheVariants.{Value as Known, NoForm}
 use Rattle.c_typed.specs.declared.value.Value as v
 use Rattle.c_typed.specs.declared.value.ValueNode.TheVariants as vn
-use Rattle.c_typed.specs.Typed.{Value, value, ValueNode, conversion, null, requalified, to_bool, type_of, start_of}
-use Rattle.c_typed.specs.Constants.{constant_of, mapped}
+use Rattle.c_typed.specs.Typed.{Value, value, ValueNode, conversion, null, requalified, to_bool, arithmetic, sum, difference, comparison, type_of, start_of}
+use Rattle.c_typed.specs.Constants.{constant_of, mapped, both, of_result}
 use Rattle.c_typed.specs.Views.{value_view, value_node_view}
 use Rattle.c_typed.proofs.ViewLaws.{view_value, view_conversion}
 use Rattle.typing_rules.specs.Terms as terms
@@ -80,3 +82,20 @@ no-constant-requalified line t e = refl
 pub no-constant-to_bool : (line first : ℕ) (t : CType) (e : Value) → NoForm ≡ constant_of (value line t (to_bool first e))
 unfolding constant_of
 no-constant-to_bool line first t e = refl
+
+pub arithmetic-constant : (op : Op) (at line : ℕ) (ty : Ty) (t : CType) (c d e : Constant) (v' w : Value) → c ≡ both (λ m n. of_result (arith_of op ty m n)) d e
+    → d ≡ constant_of v' → e ≡ constant_of w → ty_of (type_of v') ≡ ty → c ≡ constant_of (value line t (arithmetic op at v' w))
+unfolding constant_of
+arithmetic-constant op at line ty t c d e v' w is left right same = is ∙ (λ i. both (λ m n. of_result (arith_of op (sym same i) m n)) (left i) (right i))
+
+pub no-constant-sum : (line at : ℕ) (t : CType) (is_less first : Test) (a b : Value) → NoForm ≡ constant_of (value line t (sum at is_less first a b))
+unfolding constant_of
+no-constant-sum line at t is_less first a b = refl
+
+pub no-constant-difference : (line at : ℕ) (t : CType) (a b : Value) → NoForm ≡ constant_of (value line t (difference at a b))
+unfolding constant_of
+no-constant-difference line at t a b = refl
+
+pub no-constant-comparison : (op : Op) (line at : ℕ) (t : CType) (a b : Value) → NoForm ≡ constant_of (value line t (comparison op at a b))
+unfolding constant_of
+no-constant-comparison op line at t a b = refl

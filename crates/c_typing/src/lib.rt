@@ -1,6 +1,7 @@
 //! Typing (C11 6.5 to 6.9): the typed program of the trees of one or two files, or the first refusal.
 #![tactic(auto)]
 
+mod arithmetic;
 mod assign;
 mod constants;
 mod convert;
