@@ -12,6 +12,8 @@ use Rattle.c_typed.specs.declared.value.ValueNode as value_node
 use Rattle.c_types.specs.Types.{CType, integer, ty_of}
 use Rattle.c_types.specs.Table.{type_at, Extends, Stands}
 use Rattle.c_types.proofs.Grown.{Extends-refl}
+use Rattle.c_types.proofs.Same.{one-ty}
+use Rattle.srmt_base.specs.Types.{ty_code}
 use Rattle.c_typed.specs.declared.constant.Constant.{Constant}
 use Rattle.c_typed.specs.declared.constant.Constant.TheVariants.{Value as Known, NoForm}
 use Rattle.c_typed.specs.declared.value.Value as v
@@ -99,3 +101,19 @@ no-constant-difference line at t a b = refl
 pub no-constant-comparison : (op : Op) (line at : ℕ) (t : CType) (a b : Value) → NoForm ≡ constant_of (value line t (comparison op at a b))
 unfolding constant_of
 no-constant-comparison op line at t a b = refl
+
+-- a reference to an integer type
+pub integer-stands : (rows : List Row) (ty : Ty) → Stands rows (ref.Integer ty) (integer ty)
+integer-stands rows ty = record { always = λ later more. refl }
+
+-- the type at which a converted operand is
+pub converted-type : (ty : Ty) (t : terms.Written) → ty_of (type_of (terms.converted ty t)) ≡ ty
+converted-type ty t = by (ty_code (ty_of (terms.written_type t)) == ty_code ty) refl
+  where
+    by : (b : Test) → (ty_code (ty_of (terms.written_type t)) == ty_code ty) ≡ b → ty_of (type_of (if b then t.value else converted_value ty t)) ≡ ty
+    by true e = one-ty (ty_of (terms.written_type t)) ty e
+    by false e = refl
+
+-- the reference that a value has stands for its type
+pub stands-of-means : (rows : List Row) (x : v.Value) (t : Value) → MeansValue rows x t → Stands rows x.ty (type_of t)
+stands-of-means rows x t m = record { always = λ later more. ap type_of (sym (view_value (type_at later) x) ∙ m.always later more) }

@@ -7,18 +7,16 @@ ghost use Rattle.c_typed.specs.Typed as tree;
 ghost use Rattle.typing_rules.specs.Terms as terms;
 ghost use Rattle.c_typing.specs.Stand.{MeansTyped, MeansWritten};
 
-use crate::assign::promoted_value;
 use crate::constants;
-use crate::convert::converted;
 use crate::make::make;
-use crate::typed::{Typed, Written};
+use crate::typed::Typed;
 use c_typed::{Constant, ValueNode};
-use c_types::{TypeRef, Types};
+use c_types::TypeRef;
 use srmt_base::{Op, Ty};
 use std::alloc::{AllocError, Global};
 
 /// An operator on two integers of a type, with its line, and the type of what it gives.
-fn arithmetic(
+pub(crate) fn arithmetic(
     alloc: Global,
     line: u32,
     ty: TypeRef,
@@ -36,7 +34,7 @@ fn arithmetic(
 }
 
 /// A pointer and an integer, added or subtracted, of which the pointer stands first or second (C11 6.5.6p8).
-fn sum(
+pub(crate) fn sum(
     alloc: Global,
     line: u32,
     ty: TypeRef,
@@ -53,7 +51,7 @@ fn sum(
 }
 
 /// Two pointers subtracted (C11 6.5.6p9).
-fn difference(
+pub(crate) fn difference(
     alloc: Global,
     line: u32,
     ty: TypeRef,
@@ -67,7 +65,7 @@ fn difference(
 }
 
 /// Two pointers compared (C11 6.5.8, 6.5.9).
-fn comparison(
+pub(crate) fn comparison(
     alloc: Global,
     line: u32,
     ty: TypeRef,

@@ -3,11 +3,13 @@
 
 mod arithmetic;
 mod assign;
+mod binary;
 mod constants;
 mod convert;
 mod make;
 mod typed;
 
 pub use assign::{converted_by, null_of, promoted_value, repointed};
+pub use binary::result_type;
 pub use convert::converted;
 pub use typed::{Typed, Written};
