@@ -1,5 +1,5 @@
 -- A declaration, and the way back from one.
-use Rattle.std.proofs.Common.{arith, ◌≡◌, ℕ, zero, suc, ◌<◌, ◌==◌, ◌++◌, Bool, true, false, true≢false, List, [], ◌∷◌, length, map, Option, Some, None, Result, Ok, Err, slice_get, get_or, set, refl, sym, ◌∙◌, ap, subst, Vec, Global}
+use Rattle.std.proofs.Common.{arith, ◌≡◌, ℕ, zero, suc, ◌<◌, ◌==◌, ◌++◌, true, false, true≢false, List, [], ◌∷◌, length, Option, Some, None, Result, Ok, Err, slice_get, get_or, set, refl, sym, ◌∙◌, ap, subst, Vec, Global}
 use Rattle.std.specs.Map.{keys_of}
 use Rattle.std.proofs.lemmas.Bool.{eqb-true}
 use Rattle.std.proofs.lemmas.List.{length-map}
@@ -11,7 +11,7 @@ use Rattle.c_scopes.specs.declared.scopes.Entry.{Entry}
 use Rattle.c_scopes.specs.declared.scopes.Entry.TheVariants.{Begin, Declared}
 use Rattle.c_scopes.specs.declared.scopes.Change.{Change}
 use Rattle.c_scopes.specs.Scopes.{meaning_of, with_meaning, innermost, outer_scopes, ShrinksBy}
-use Rattle.c_scopes.specs.Log.{names_of, meanings_of, step, scopes_from, scopes_of, Starts, LeadsBack, IsNamed}
+use Rattle.c_scopes.specs.Log.{names_of, meanings_of, scopes_from, scopes_of, Starts, LeadsBack, IsNamed}
 use Rattle.c_scopes.proofs.Meanings.{scopes-push, has-scope}
 use Rattle.c_scopes.proofs.Pushed.{declared, declared-undone, begun-undone, last}
 use Rattle.c_scopes.proofs.Named.{named, names-set, meanings-set}

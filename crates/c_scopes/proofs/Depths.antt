@@ -1,12 +1,12 @@
 -- What scopes with numbers say of scopes without.
-use Rattle.std.proofs.Common.{arith, ◌≡◌, ◌≢◌, ℕ, zero, suc, ◌+◌, ◌<◌, ◌≤◌, Bool, true, false, true≢false, if◌then◌else◌, map, List, [], ◌∷◌, ◌++◌, length, Option, Some, None, refl, sym, ◌∙◌, ap, subst}
+use Rattle.std.proofs.Common.{arith, ◌≡◌, ◌≢◌, ℕ, suc, ◌+◌, ◌≤◌, Bool, true, false, if◌then◌else◌, map, List, [], ◌∷◌, length, Option, Some, None, refl, sym, ◌∙◌, ap, subst}
 use Rattle.std.specs.Str.{bytes_eq}
 use Rattle.std.specs.List.{AllByRecursion}
 use Rattle.c_scopes.specs.declared.blocks.Located.{Located}
 use Rattle.c_scopes.specs.declared.scopes.Entry.{Entry}
 use Rattle.c_scopes.specs.declared.scopes.Entry.TheVariants.{Begin, Declared}
-use Rattle.c_scopes.specs.Scopes.{found_in, or_else, meaning_of, with_meaning, innermost, outer_scopes}
-use Rattle.c_scopes.specs.Log.{step, scopes_from, scopes_of}
+use Rattle.c_scopes.specs.Scopes.{found_in, or_else, meaning_of, innermost}
+use Rattle.c_scopes.specs.Log.{step, scopes_from}
 use Rattle.c_scopes.specs.Depths.{meanings_in, AreLocated}
 use Rattle.c_scopes.proofs.Pushed.{some_is, none_is_not}
 

@@ -1,5 +1,5 @@
 -- What names mean as declarations come and go.
-use Rattle.std.proofs.Common.{rules, arith, ◌≡◌, ◌≢◌, ℕ, zero, suc, ◌<◌, ◌≤◌, Bool, true, false, if◌then◌else◌, List, [], ◌∷◌, ◌++◌, length, Option, Some, None, slice_get, get_or, refl, sym, ◌∙◌, ap, subst, true≢false}
+use Rattle.std.proofs.Common.{◌≡◌, ◌≢◌, ℕ, zero, suc, ◌<◌, Bool, true, false, if◌then◌else◌, List, [], ◌∷◌, ◌++◌, length, Some, None, slice_get, get_or, refl, sym, ◌∙◌, ap}
 use Rattle.std.proofs.lemmas.List.{get_or_append_left}
 use Rattle.std.specs.Str.{bytes_eq}
 use Rattle.std.proofs.lemmas.Slice.Eq.{bytes_eq-Decides}
@@ -7,7 +7,7 @@ use Rattle.c_scopes.specs.declared.scopes.Entry.{Entry}
 use Rattle.c_scopes.specs.declared.scopes.Entry.TheVariants.{Begin, Declared}
 use Rattle.c_scopes.specs.declared.scopes.Change.{Change}
 use Rattle.c_scopes.specs.Scopes.{found_in, or_else, meaning_of, with_meaning}
-use Rattle.c_scopes.specs.Log.{step, scopes_from, scopes_of, Starts}
+use Rattle.c_scopes.specs.Log.{step, scopes_from, scopes_of}
 
 pub itself : (n : List ℕ) → bytes_eq n n ≡ true
 itself n = (bytes_eq-Decides n n).1 refl

@@ -1,19 +1,17 @@
 -- The names of a map, and what is found of them.
-use Rattle.std.proofs.Common.{rules, arith, ◌≡◌, ◌≢◌, ℕ, zero, suc, ◌+◌, ◌<◌, ◌≤◌, Bool, true, false, cond, if◌then◌else◌, map, List, [], ◌∷◌, ◌++◌, length, length-append, take, Option, Some, None, slice_get, get_or, set, position, ◌⊎◌, inl, inr, refl, sym, ◌∙◌, ap, subst, true≢false, Vec, Global}
+use Rattle.std.proofs.Common.{rules, arith, ◌≡◌, ◌≢◌, ℕ, zero, suc, ◌+◌, ◌<◌, Bool, true, false, cond, map, List, [], ◌∷◌, ◌++◌, length, length-append, take, Option, Some, None, slice_get, get_or, set, position, ◌⊎◌, inl, inr, refl, sym, ◌∙◌, ap, subst, true≢false, Vec, Global}
 use Rattle.std.specs.Str.{bytes_eq}
 use Rattle.std.specs.Map.{keys_of, lookup}
 use Rattle.indexmap.specs.IndexMap.{set_value_at}
-use Rattle.std.proofs.lemmas.List.{get_or_append_left, get_or-append-add}
+use Rattle.std.proofs.lemmas.List.{get_or_append_left}
 use Rattle.std.proofs.lemmas.List.Quantifiers.{position-Some}
 use Rattle.std.proofs.lemmas.Slice.Eq.{bytes_eq-Decides}
 use Rattle.c_scopes.specs.declared.scopes.Entry.{Entry}
-use Rattle.c_scopes.specs.declared.scopes.Entry.TheVariants.{Begin, Declared}
-use Rattle.c_scopes.specs.declared.scopes.Change.{Change}
-use Rattle.c_scopes.specs.Scopes.{found_in, or_else, meaning_of, with_meaning}
-use Rattle.c_scopes.specs.Log.{names_of, meanings_of, step, scopes_from, scopes_of, Starts, LeadsBack, IsNamed}
+use Rattle.c_scopes.specs.Scopes.{meaning_of}
+use Rattle.c_scopes.specs.Log.{names_of, meanings_of, scopes_of, LeadsBack, IsNamed}
 use Rattle.std.proofs.lemmas.Bool.Decides.{leb_tells}
 use Rattle.c_scopes.proofs.Pushed.{none_is_not}
-use Rattle.c_scopes.proofs.Meanings.{meaning-same, meaning-other, scopes-push, scopes-grow, scopes-absent, has-scope, itself}
+use Rattle.c_scopes.proofs.Meanings.{scopes-grow, scopes-absent}
 
 -- whether a key has these bytes
 abbrev pub test_of : List ℕ → Vec ℕ Global → Bool

@@ -1,14 +1,14 @@
 -- The log leads back as entries come and go.
-use Rattle.std.proofs.Common.{rules, arith, ◌≡◌, ◌≢◌, ℕ, zero, suc, ◌+◌, ◌<◌, ◌≤◌, Bool, true, false, if◌then◌else◌, List, [], ◌∷◌, ◌++◌, length, length-append, take, Option, Some, None, slice_get, get_or, set, length-set, ◌⊎◌, inl, inr, nat_eq, refl, sym, ◌∙◌, ap, subst, true≢false}
-use Rattle.std.proofs.lemmas.List.{get_or_append_left, get_or-append-add, get_or-set_same, get_or-set_other, take-append-le}
+use Rattle.std.proofs.Common.{arith, ◌≡◌, ◌≢◌, ℕ, zero, suc, ◌<◌, ◌≤◌, Bool, true, false, List, [], ◌∷◌, ◌++◌, length, take, Option, Some, None, slice_get, get_or, set, length-set, ◌⊎◌, inl, inr, nat_eq, refl, sym, ◌∙◌, ap, subst, true≢false}
+use Rattle.std.proofs.lemmas.List.{get_or-set_same, get_or-set_other, take-append-le}
 use Rattle.std.proofs.lemmas.Option.{slice_get_within}
 use Rattle.std.proofs.lemmas.Bool.{eqb-true, eq-eqb}
 use Rattle.c_scopes.specs.declared.scopes.Entry.{Entry}
 use Rattle.c_scopes.specs.declared.scopes.Entry.TheVariants.{Begin, Declared}
 use Rattle.c_scopes.specs.declared.scopes.Change.{Change}
-use Rattle.c_scopes.specs.Scopes.{found_in, or_else, meaning_of, with_meaning}
+use Rattle.c_scopes.specs.Scopes.{meaning_of, with_meaning}
 use Rattle.c_scopes.specs.Log.{step, scopes_from, scopes_of, Starts, LeadsBack}
-use Rattle.c_scopes.proofs.Meanings.{meaning-same, meaning-other, scopes-push, scopes-grow, scopes-absent, has-scope}
+use Rattle.c_scopes.proofs.Meanings.{meaning-same, meaning-other, scopes-push, has-scope}
 
 pub some_is : {A : Type 0} {x y : A} → Some x ≡ Some y → x ≡ y
 some_is {x = x} e = ap (λ o. elim o [ Some z ↦ z | None ↦ x ]) e

@@ -1,5 +1,5 @@
 -- Scopes whose declarations say in how many scopes they stand.
-use Rattle.std.specs.Prelude.{◌≡◌, ℕ, zero, suc, map, List, [], ◌∷◌, length}
+use Rattle.std.specs.Prelude.{◌≡◌, ℕ, suc, map, List, [], ◌∷◌, length}
 use Rattle.std.specs.List.{AllByRecursion}
 use Rattle.c_scopes.specs.declared.blocks.Located.{Located}
 

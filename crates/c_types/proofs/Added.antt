@@ -1,18 +1,14 @@
 -- What stands in a table after a row was added.
-use Rattle.std.proofs.Common.{rules, arith, ◌≡◌, ℕ, zero, suc, ◌+◌, ◌<◌, ◌≤◌, Bool, true, false, List, [], ◌∷◌, ◌++◌, length, length-append, Option, Some, None, slice_get, ◌⊎◌, if◌then◌else◌, inl, inr, refl, sym, ◌∙◌, ap, subst}
+use Rattle.std.proofs.Common.{arith, ◌≡◌, ℕ, zero, suc, Bool, true, false, List, [], ◌∷◌, ◌++◌, length, Some, slice_get, ◌⊎◌, if◌then◌else◌, inl, inr, refl, sym, ◌∙◌, ap, subst}
 use Rattle.std.specs.List.{IsDistinct, list_any}
 use Rattle.std.proofs.lemmas.Option.{slice_get_within}
 use Rattle.indexmap.specs.IndexSet.{insert_key}
-use Rattle.c_types.specs.declared.type_ref.TypeRef.{TypeRef}
 use Rattle.c_types.specs.declared.type_ref.TypeRef.TheVariants as ref
-use Rattle.c_types.specs.declared.type_ref.QualifiedRef.{QualifiedRef}
 use Rattle.c_types.specs.declared.type_ref.Row.{Row}
-use Rattle.c_types.specs.declared.type_ref.Row.TheVariants as row
 use Rattle.c_types.specs.contracts.type_ref.RowPartialEq.TheImpl as equal
-use Rattle.c_types.specs.Types.{CType, void}
-use Rattle.c_types.specs.Table.{row_type, types_of, type_at, row_at, Extends, Stands, IsBelow, IsMadeBelow, WellMade}
+use Rattle.c_types.specs.Table.{row_type, types_of, Extends, Stands, IsMadeBelow, WellMade}
 use Rattle.c_types.proofs.Rows.{some_is, none_is_not, distinct-once, row_same}
-use Rattle.c_types.proofs.Grown.{Extends-refl, Extends-trans, made-later, type_at-row, type_at-later, row_type-later}
+use Rattle.c_types.proofs.Grown.{Extends-refl, made-later, type_at-row, type_at-later, row_type-later}
 
 -- a place in a list with one more is a place in the list, or the last
 place-in-push : {A : Type 0} (xs : List A) (x : A) (n : ℕ) (z : A) → slice_get (xs ++ x ∷ []) n ≡ Some z → (slice_get xs n ≡ Some z) ⊎ ((n ≡ length xs) × (z ≡ x))

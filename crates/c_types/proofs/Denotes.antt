@@ -1,16 +1,14 @@
 -- One type has one reference.
-use Rattle.std.proofs.Common.{arith, ◌≡◌, ℕ, zero, suc, ◌<◌, ◌≤◌, List, length, Bool, true, false, Option, Some, None, slice_get, refl, sym, ◌∙◌, ap, subst}
-use Rattle.std.proofs.lemmas.Option.{slice_get_within}
+use Rattle.std.proofs.Common.{arith, ◌≡◌, ℕ, zero, suc, ◌<◌, List, length, Bool, true, false, Option, Some, None, slice_get, refl, sym, ◌∙◌, ap, subst}
 use Rattle.c_types.specs.declared.type_ref.TypeRef.{TypeRef}
 use Rattle.c_types.specs.declared.type_ref.TypeRef.TheVariants as ref
-use Rattle.c_types.specs.declared.type_ref.QualifiedRef.{QualifiedRef}
 use Rattle.c_types.specs.declared.type_ref.Row.{Row}
 use Rattle.c_types.specs.declared.type_ref.Row.TheVariants as row
 use Rattle.c_types.specs.Types.{CType, void, integer, pointer, array, returning, taking, same_type}
 use Rattle.c_types.specs.Table.{row_at, row_type, type_at, types_of, size_of, IsBelow, WellMade}
 use Rattle.c_types.specs.contracts.type_ref.TypeRefPartialEq.TheImpl as reference
 use Rattle.c_types.specs.contracts.type_ref.TypeRefEq.TheImpl.Laws.{laws-law}
-use Rattle.c_types.proofs.Rows.{some_is, none_is_not, same_ref}
+use Rattle.c_types.proofs.Rows.{none_is_not, same_ref}
 use Rattle.c_types.proofs.Same.{one-type, type-itself}
 use Rattle.c_types.proofs.Grown.{type_at-row, below-more, past}
 

@@ -1,5 +1,5 @@
 -- Rows of a table that are added, each once.
-use Rattle.std.proofs.Common.{rules, arith, ◌≡◌, ◌≢◌, ℕ, zero, suc, Bool, true, false, List, [], ◌∷◌, ◌++◌, ◌&&◌, Option, Some, None, slice_get, nat_eq, refl, sym, ◌∙◌, ap, subst, true≢false}
+use Rattle.std.proofs.Common.{rules, ◌≡◌, ℕ, zero, suc, Bool, true, false, List, [], ◌∷◌, ◌++◌, ◌&&◌, Some, None, slice_get, nat_eq, refl, sym, ◌∙◌, ap, subst, true≢false}
 use Rattle.std.proofs.lemmas.Bool.{eqb-true}
 use Rattle.std.specs.List.{IsDistinct, AllByRecursion}
 use Rattle.c_types.specs.declared.type_ref.TypeRef.{TypeRef}

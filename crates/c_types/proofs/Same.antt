@@ -1,8 +1,7 @@
 -- The test for one type.
-use Rattle.std.proofs.Common.{rules, ◌≡◌, ℕ, nat_eq, Bool as Test, true, false, ◌&&◌, true≢false, Option, Some, None, refl, sym, ◌∙◌, ap}
+use Rattle.std.proofs.Common.{rules, ◌≡◌, ℕ, nat_eq, Bool as Test, true, false, ◌&&◌, true≢false, Option, Some, None, refl, sym, ap}
 use Rattle.std.proofs.lemmas.Bool.{eqb-true}
 use Rattle.srmt_base.specs.declared.ty.Ty.{Ty}
-use Rattle.srmt_base.specs.declared.ty.Ty.TheVariants.{Bool, Char, SChar, UChar, Short, UShort, Int, UInt}
 use Rattle.srmt_base.specs.Types.{ty_code}
 use Rattle.c_types.specs.declared.qualifiers.Qualifiers.{Qualifiers}
 use Rattle.c_types.specs.Types.{CType, void, integer, pointer, array, returning, taking, same_type, same_qualifiers, same_test, same_length}

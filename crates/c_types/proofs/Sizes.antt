@@ -1,5 +1,5 @@
 -- A cell counts at most four bytes.
-use Rattle.std.proofs.Common.{arith, ◌≡◌, ◌≤◌, ◌*◌, ℕ, Some, None}
+use Rattle.std.proofs.Common.{arith, ◌≤◌, ◌*◌, Some, None}
 use Rattle.std.proofs.Math.Nat.{mul-le-mul_left, mul_left_comm}
 use Rattle.srmt_base.specs.declared.ty.Ty.{Ty}
 use Rattle.srmt_base.specs.declared.ty.Ty.TheVariants.{Bool, Char, SChar, UChar, Short, UShort, Int, UInt}

@@ -1,5 +1,5 @@
 -- Conversions of integers that the language makes by itself (C11 6.3.1).
-use Rattle.std.specs.Prelude.{◌==◌, nat_lt, Bool as Test, true, false, if◌then◌else◌}
+use Rattle.std.specs.Prelude.{nat_lt, if◌then◌else◌}
 use Rattle.srmt_base.specs.declared.ty.Ty.{Ty}
 use Rattle.srmt_base.specs.declared.ty.Ty.TheVariants.{Bool, Char, SChar, UChar, Short, UShort, Int, UInt}
 use Rattle.srmt_base.specs.Types.{is_signed, width_of}

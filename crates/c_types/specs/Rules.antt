@@ -16,7 +16,7 @@ use Rattle.c_types.specs.declared.form.ChoiceForm.{ChoiceForm}
 use Rattle.c_types.specs.declared.form.ChoiceForm.TheVariants as choice
 use Rattle.c_types.specs.declared.form.Conversion.{Conversion}
 use Rattle.c_types.specs.declared.form.Conversion.TheVariants as to
-use Rattle.c_types.specs.Types.{CType, void, integer, pointer, Qualified, unqualified, with_both, has_each, is_void, is_integer, is_pointer, is_function, is_scalar, is_complete, ty_of, target_of, is_object_pointer, is_complete_pointer, is_function_pointer, point_to_one}
+use Rattle.c_types.specs.Types.{CType, void, integer, pointer, Qualified, with_both, has_each, is_void, is_integer, is_pointer, is_scalar, is_complete, ty_of, target_of, is_object_pointer, is_complete_pointer, is_function_pointer, point_to_one}
 use Rattle.c_types.specs.Conversions.{promoted, usual}
 
 -- what a rule allows, or the number of the rule that is broken

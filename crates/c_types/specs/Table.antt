@@ -1,5 +1,5 @@
 -- What a table of types says: rows, each of which makes a type of the types of earlier rows.
-use Rattle.std.specs.Prelude.{◌≡◌, ℕ, ◌<◌, Bool as Test, List, [], ◌∷◌, ◌++◌, length, Option, Some, None, Result, Ok, Err, slice_get, slice_index_or, ⊤}
+use Rattle.std.specs.Prelude.{◌≡◌, ℕ, ◌<◌, List, [], ◌∷◌, ◌++◌, length, Option, Some, None, Result, Ok, Err, slice_get, slice_index_or, ⊤}
 use Rattle.c_types.specs.declared.type_ref.TypeRef.{TypeRef}
 use Rattle.c_types.specs.declared.type_ref.TypeRef.TheVariants as ref
 use Rattle.c_types.specs.declared.type_ref.QualifiedRef.{QualifiedRef}

@@ -4,6 +4,9 @@ use Rattle.c_types.specs.declared.type_ref.Row.{Row}
 use Rattle.c_types.specs.Table.{type_at, Extends}
 use Rattle.c_typed.specs.declared.value.Value as v
 use Rattle.c_typed.specs.declared.value.Place as p
+use Rattle.c_typed.specs.declared.value.ValueNode as node
+use Rattle.c_typed.specs.declared.constant.Constant.{Constant}
+use Rattle.c_types.specs.declared.type_ref.TypeRef.{TypeRef}
 use Rattle.srmt_base.specs.declared.ty.Ty.{Ty}
 use Rattle.c_types.specs.Types.{integer}
 use Rattle.c_typed.specs.Typed.{Place, Value, value, conversion}
@@ -31,3 +34,10 @@ pub record MeansWritten (rows : List Row) (x : Written) (t : terms.Written) : Ty
 -- an operand that is converted to an integer type
 abbrev pub converted_value : Ty → terms.Written → Value
 converted_value ty w = value w.first (integer ty) (conversion w.first w.value)
+
+-- a value that was made so
+pub record IsMade (x : Typed) (line : ℕ) (ty : TypeRef) (is : node.ValueNode) (constant : Constant) : Type 0 where
+  pub line_is : x.value.line ≡ line
+  pub ty_is : x.value.ty ≡ ty
+  pub node_is : x.value.node ≡ is
+  pub constant_is : x.constant ≡ constant

@@ -1,9 +1,15 @@
 //! Typing (C11 6.5 to 6.9): the typed program of the trees of one or two files, or the first refusal.
 #![tactic(auto)]
 
+mod arithmetic;
+mod assign;
+mod binary;
 mod constants;
 mod convert;
+mod make;
 mod typed;
 
+pub use assign::{converted_by, null_of, promoted_value, repointed};
+pub use binary::result_type;
 pub use convert::converted;
 pub use typed::{Typed, Written};

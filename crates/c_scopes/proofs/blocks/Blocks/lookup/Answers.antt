@@ -1,4 +1,4 @@
-use Rattle.std.proofs.Common.{◌≡◌, ap, sym, ◌∙◌}
+use Rattle.std.proofs.Common.{ap, sym, ◌∙◌}
 use Rattle.c_scopes.specs.Scopes.{meaning_of}
 use Rattle.c_scopes.proofs.Depths.{meaning-at, meaning_at}
 use Rattle.c_scopes.proofs.blocks.Blocks.lookup.Goals as goal

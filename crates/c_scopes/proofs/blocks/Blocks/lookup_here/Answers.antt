@@ -1,4 +1,4 @@
-use Rattle.std.proofs.Common.{◌≡◌, ap, sym, ◌∙◌}
+use Rattle.std.proofs.Common.{ap, sym, ◌∙◌}
 use Rattle.c_scopes.specs.Scopes.{found_in, innermost}
 use Rattle.c_scopes.proofs.Depths.{here-none, here-found, here-other}
 use Rattle.c_scopes.proofs.blocks.Blocks.lookup_here.Goals as goal

@@ -1,4 +1,4 @@
-use Rattle.std.proofs.Common.{arith, ◌≡◌, ◌<◌, ◌^◌, ◌+◌, ℕ, suc, [], ◌∷◌, length, ap, sym, ◌∙◌, subst}
+use Rattle.std.proofs.Common.{arith, ◌+◌, length, ap, sym, subst}
 use Rattle.c_scopes.specs.Depths.{AreLocated}
 use Rattle.c_scopes.proofs.Depths.{located-length}
 use Rattle.c_scopes.proofs.blocks.Blocks.open.Goals as goal
@@ -14,4 +14,4 @@ pub invariant_of-self-2 : goal.invariant_of-self-2
 invariant_of-self-2 g c =
     let long = located-length c.self.inside.depth c.self.inside.scopes c.self.invariant in
     subst (AreLocated (c.self.inside.depth + 1)) (sym c.in_ok-open.ensures.opened)
-      (omega arith, tt, subst (λ d. AreLocated d c.self.inside.scopes) long c.self.invariant)
+    (omega arith, tt, subst (λ d. AreLocated d c.self.inside.scopes) long c.self.invariant)

@@ -1,4 +1,4 @@
-use Rattle.std.proofs.Common.{◌≡◌, ℕ, length}
+use Rattle.std.proofs.Common.{◌≡◌, length}
 use Rattle.c_scopes.specs.Scopes.{innermost, outer_scopes}
 use Rattle.c_scopes.proofs.scopes.Scopes.close.Given as goal
 

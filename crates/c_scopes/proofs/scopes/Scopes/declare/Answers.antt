@@ -1,8 +1,8 @@
-use Rattle.std.proofs.Common.{◌≡◌, ◌==◌, length, None, ℕ, sym, ap, ◌∙◌, subst}
+use Rattle.std.proofs.Common.{◌==◌, length, None, sym, ap, ◌∙◌, subst}
 use Rattle.c_scopes.specs.Scopes.{with_meaning}
 use Rattle.c_scopes.specs.Log.{names_of, meanings_of, scopes_of, LeadsBack}
 use Rattle.c_scopes.proofs.Named.{named}
-use Rattle.c_scopes.proofs.Declares.{Declares, declares-leads, declares-scopes, empty-scopes, on-err, value-read}
+use Rattle.c_scopes.proofs.Declares.{declares-leads, declares-scopes, empty-scopes, on-err, value-read}
 use Rattle.c_scopes.proofs.scopes.Scopes.declare.Goals as goal
 
 pub returns-then-is_empty-clause-declared : goal.returns-then-is_empty-clause-declared

@@ -1,4 +1,4 @@
-use Rattle.std.proofs.Common.{◌≡◌, sym, ap, ◌∙◌}
+use Rattle.std.proofs.Common.{ap, ◌∙◌}
 use Rattle.c_scopes.specs.Scopes.{meaning_of}
 use Rattle.c_scopes.proofs.Named.{found, flat}
 use Rattle.c_scopes.proofs.scopes.Scopes.lookup.Goals as goal

@@ -1,6 +1,5 @@
 use Rattle.std.proofs.Common.{rules}
 use Rattle.c_scopes.specs.Log.{scopes_from}
-use Rattle.c_scopes.proofs.Meanings.{meaning-same}
 use Rattle.c_scopes.proofs.scopes.Scopes.new.Goals as goal
 
 pub returns : goal.returns

@@ -1,11 +1,11 @@
-use Rattle.std.proofs.Common.{arith, ◌≡◌, ◌<◌, ◌+◌, ℕ, List, [], ◌∷◌, ◌++◌, length, length-append, map, Bool, true, false, true≢false, is_some, Option, Some, None, get_or, inl, inr, refl, sym, ap, ◌∙◌, subst, Vec, Global}
+use Rattle.std.proofs.Common.{arith, ◌≡◌, ◌<◌, ℕ, List, [], ◌∷◌, ◌++◌, length, length-append, false, true≢false, is_some, Option, Some, None, get_or, inr, refl, sym, ap, ◌∙◌, Vec, Global}
 use Rattle.std.proofs.lemmas.List.{length-map}
 use Rattle.std.specs.Str.{bytes_eq}
 use Rattle.std.specs.Map.{keys_of, lookup}
 use Rattle.std.proofs.lemmas.Map.Entries.{length-keys_of}
 use Rattle.indexmap.proofs.CallerLemmas.{insert_entry-new}
-use Rattle.c_scopes.specs.Log.{names_of, meanings_of, IsNamed}
-use Rattle.c_scopes.proofs.Named.{looked, test_of, position-name, last-of, names-push, meanings-push, absent-name}
+use Rattle.c_scopes.specs.Log.{names_of, IsNamed}
+use Rattle.c_scopes.proofs.Named.{test_of, position-name, last-of, names-push, meanings-push, absent-name}
 use Rattle.c_scopes.proofs.scopes.Scopes.number.Goals as goal
 
 not-some : {A : Type 0} (o : Option A) → false ≡ is_some o → o ≡ None

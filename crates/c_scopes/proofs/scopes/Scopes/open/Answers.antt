@@ -1,10 +1,9 @@
-use Rattle.std.proofs.Common.{arith, ◌≡◌, sym, ap, ◌∙◌, subst, [], ◌∷◌}
+use Rattle.std.proofs.Common.{arith, sym, ap, ◌∙◌, subst, [], ◌∷◌}
 use Rattle.c_scopes.specs.Log.{names_of, meanings_of, scopes_of, LeadsBack}
 use Rattle.c_scopes.specs.declared.scopes.Entry.TheVariants.{Begin}
 use Rattle.c_scopes.proofs.Pushed.{opened}
 use Rattle.c_scopes.proofs.Depths.{scopes-few}
 use Rattle.c_scopes.proofs.Meanings.{scopes-push}
-use Rattle.c_scopes.proofs.Named.{named}
 use Rattle.c_scopes.proofs.scopes.Scopes.open.Goals as goal
 
 pub invariant_of-self-2 : goal.invariant_of-self-2

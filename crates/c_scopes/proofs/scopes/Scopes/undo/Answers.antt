@@ -1,7 +1,6 @@
-use Rattle.std.proofs.Common.{◌≡◌, ℕ, length, Vec, Global, ap, sym, ◌∙◌, subst}
+use Rattle.std.proofs.Common.{◌≡◌, length, Vec, Global, sym, ◌∙◌}
 use Rattle.std.specs.Vec.{vec_len}
-use Rattle.c_scopes.specs.Log.{names_of, meanings_of, scopes_of, LeadsBack}
-use Rattle.c_scopes.specs.declared.scopes.Entry.TheVariants.{Begin, Declared}
+use Rattle.c_scopes.specs.Log.{names_of}
 use Rattle.c_scopes.proofs.Declares.{undone-leads, undone-within, undone-scopes, begun-scopes, begun-leads, none-scopes, popped, zero-of}
 use Rattle.c_scopes.proofs.scopes.Scopes.undo.Goals as goal
 

@@ -1,4 +1,3 @@
-use Rattle.std.proofs.Common.{◌≡◌, ◌≤◌, ◌*◌}
 use Rattle.c_types.proofs.Sizes.{bytes-few}
 use Rattle.c_types.proofs.table.Types.array_of.Goals as goal
 

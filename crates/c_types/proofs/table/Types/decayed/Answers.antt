@@ -1,6 +1,6 @@
 use Rattle.std.proofs.Common.{◌≡◌, refl, sym, ap, ◌∙◌, subst}
 use Rattle.c_types.specs.Types.{CType, decayed}
-use Rattle.c_types.specs.Table.{Stands, type_at}
+use Rattle.c_types.specs.Table.{Stands}
 use Rattle.c_types.proofs.table.Types.decayed.Goals as goal
 
 -- a type that does not decay

@@ -1,9 +1,8 @@
-use Rattle.std.proofs.Common.{◌≡◌, List, length, Some, slice_get, sym, ◌∙◌, ap, subst}
+use Rattle.std.proofs.Common.{◌≡◌, List, length, Some, sym, ◌∙◌, ap, subst}
 use Rattle.std.specs.List.{IsDistinct}
 use Rattle.indexmap.specs.IndexSet.{insert_key}
 use Rattle.c_types.specs.declared.type_ref.Row.{Row}
-use Rattle.c_types.specs.declared.type_ref.TypeRef.TheVariants.{Derived}
-use Rattle.c_types.specs.Table.{Extends, Stands, WellMade, row_type, types_of, IsMadeBelow}
+use Rattle.c_types.specs.Table.{Extends, WellMade, types_of, IsMadeBelow}
 use Rattle.c_types.specs.contracts.type_ref.RowPartialEq.TheImpl as equal
 use Rattle.c_types.proofs.Rows.{same_row}
 use Rattle.c_types.proofs.Added.{extends-insert, well-insert, stands-added}

@@ -1,4 +1,4 @@
-use Rattle.std.proofs.Common.{◌≡◌, subst, ◌∙◌}
+use Rattle.std.proofs.Common.{subst, ◌∙◌}
 use Rattle.c_types.specs.Types.{same_type}
 use Rattle.c_types.specs.Table.{WellMade}
 use Rattle.c_types.proofs.Denotes.{equal-references}

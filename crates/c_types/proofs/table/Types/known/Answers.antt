@@ -1,7 +1,5 @@
-use Rattle.std.proofs.Common.{◌≡◌, ℕ, List, length, ◌≤◌, sym, ap, ◌∙◌, subst, arith}
-use Rattle.c_types.specs.Types.{void}
+use Rattle.std.proofs.Common.{length, ◌≤◌, sym, ap, ◌∙◌}
 use Rattle.c_types.specs.Table.{type_at}
-use Rattle.c_types.specs.declared.type_ref.TypeRef.TheVariants.{Derived}
 use Rattle.c_types.proofs.Grown.{type_at-past}
 use Rattle.c_types.proofs.table.Types.known.Goals as goal
 

@@ -1,7 +1,4 @@
-use Rattle.std.proofs.Common.{◌≡◌, List, length, Option, ap, sym, subst, ◌∙◌, slice_get}
-use Rattle.c_types.specs.declared.type_ref.TypeRef.TheVariants.{Derived}
-use Rattle.c_types.specs.declared.type_ref.Row.{Row}
-use Rattle.c_types.specs.declared.type_ref.Shape.{Shape}
+use Rattle.std.proofs.Common.{◌≡◌, length, ap, sym, subst, ◌∙◌, slice_get}
 use Rattle.c_types.specs.Table.{type_at, types_of, shape_type, shape_of, IsShapedBelow, WellMade}
 use Rattle.c_types.proofs.Grown.{shape-made, shape-below}
 use Rattle.c_types.proofs.table.Types.shape.Goals as goal

@@ -1,4 +1,4 @@
-use Rattle.std.proofs.Common.{◌≡◌, subst}
+use Rattle.std.proofs.Common.{subst}
 use Rattle.c_types.specs.Table.{Stands}
 use Rattle.c_types.proofs.Grown.{Stands-below}
 use Rattle.c_types.proofs.table.Types.standing.Goals as goal

@@ -1,6 +1,6 @@
-use Rattle.std.proofs.Common.{◌≡◌, sym, subst, refl, ap}
+use Rattle.std.proofs.Common.{sym, subst, refl}
 use Rattle.c_types.specs.Types.{target_of}
-use Rattle.c_types.specs.Table.{type_at, StandsFor}
+use Rattle.c_types.specs.Table.{StandsFor}
 use Rattle.c_types.proofs.Grown.{Stands-below}
 use Rattle.c_types.proofs.table.Types.target.Goals as goal
 
