@@ -1,5 +1,5 @@
 /// How the program is used, as it tells on `--help`.
-pub const HELP: [&str; 26] = [
+pub const HELP: [&str; 28] = [
     "srmtrun runs a program of a subset of C, on one thread or as two threads that check each other.",
     "",
     "usage: srmtrun PROGRAM MODE",
@@ -7,6 +7,8 @@ pub const HELP: [&str; 26] = [
     "       srmtrun --version",
     "",
     "PROGRAM is the name of a source file. It does not begin with - and does not end in .srm.",
+    "Today main writes constants by putchar and returns a constant; other sources are refused.",
+    "",
     "MODE is one of these:",
     "  --single     runs the program on one thread",
     "  --alternate  runs both of its threads in turn, which check each other",

@@ -4,8 +4,6 @@ use Rattle.srmt_base.specs.declared.trap.SourceEnd.{SourceEnd}
 use Rattle.verdicts.specs.declared.verdict.Ran.{Ran}
 use Rattle.answers.specs.declared.answer.RunAnswer.{RunAnswer}
 use Rattle.answers.specs.declared.answer.RunAnswer.TheVariants.{Alone, Ran as RanBoth, Help, Version, Usage, ReadFault, TooLong, Refused, WriteFault, OutOfMemory}
-use Rattle.srmtrun.specs.declared.words.Question.{Question}
-use Rattle.srmtrun.specs.declared.words.Question.TheVariants.{Help as AskHelp, Version as AskVersion}
 
 -- a run that ended is answered by its end
 abbrev pub answer_from : Result SourceEnd RunAnswer → RunAnswer
@@ -15,11 +13,6 @@ answer_from (Err answer) = answer
 abbrev pub both_from : Result Ran RunAnswer → RunAnswer
 both_from (Ok ran) = RanBoth ran
 both_from (Err answer) = answer
-
--- a question is answered by itself
-abbrev pub answer_to : Question → RunAnswer
-answer_to AskHelp = Help
-answer_to AskVersion = Version
 
 -- an answer that the words alone decide: no file is asked for
 abbrev pub IsOfWords : RunAnswer → Type 0

@@ -30,7 +30,7 @@ abbrev pub Asks : List (List ℕ) → Question → Type 0
 Asks words Help = words ≡ codes "--help" ∷ []
 Asks words Version = words ≡ codes "--version" ∷ []
 
--- the words name no program and a mode, and ask nothing
+-- the words are not those of a program and a mode, and no question
 pub record IsUsage (words : List (List ℕ)) : Type 0 where
   pub taken : (mode : Mode) (program : List ℕ) → Takes words mode program → ⊥
   pub asked : (question : Question) → Asks words question → ⊥

@@ -14,7 +14,7 @@ ghost use Rattle.first_form.specs.declared.source.FirstForm.{FirstForm};
 ghost use Rattle.first_form.specs.FirstForm.{IsFirstForm};
 ghost use Rattle.first_form.specs.Lowered.{Implements};
 ghost use Rattle.srmtrun.specs.declared.words.Mode.{Mode};
-ghost use Rattle.srmtrun.specs.Answer.{answer_from, both_from, answer_to, IsOfWords};
+ghost use Rattle.srmtrun.specs.Answer.{answer_from, both_from, IsOfWords};
 ghost use Rattle.srmtrun.specs.Still.{Names, IsNoSource, IsTooLong, RunsToEnd, RanOnSource, StopsWriting, AsksFor, AnswersForm};
 ghost use Rattle.srmtrun.specs.Parts.{Serves, StopsCompiling, StopsRun, RanBySides};
 ghost use Rattle.srmtrun.specs.Words.{texts, Takes, Asks, IsUsage};

@@ -1,8 +1,7 @@
-use Rattle.std.proofs.Common.{◌≡◌, ℕ, List, Err, sym, ap, subst}
+use Rattle.std.proofs.Common.{ℕ, List, subst}
 use Rattle.std.proofs.lemmas.Result.{err_from_is_err_and}
 use Rattle.srmtrun.proofs.Serving.{compile_serves, compile_asks, sides_serve}
 use Rattle.first_form.specs.FirstForm.{IsFirstForm}
-use Rattle.first_form.specs.declared.source.FirstForm.{FirstForm}
 use Rattle.srmtrun.specs.Parts.{StopsCompiling}
 use Rattle.srmtrun.specs.declared.words.Mode.TheVariants.{Alternate}
 use Rattle.srmtrun.proofs.still.both.Goals as goal

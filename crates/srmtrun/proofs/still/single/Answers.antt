@@ -1,8 +1,7 @@
-use Rattle.std.proofs.Common.{◌≡◌, ℕ, List, Err, refl, sym, ap, subst}
+use Rattle.std.proofs.Common.{ℕ, List, refl, subst}
 use Rattle.std.proofs.lemmas.Result.{err_from_is_err_and}
 use Rattle.srmtrun.proofs.Serving.{compile_serves, compile_asks, run_serves, run_asks}
 use Rattle.first_form.specs.FirstForm.{IsFirstForm}
-use Rattle.first_form.specs.declared.source.FirstForm.{FirstForm}
 use Rattle.srmtrun.specs.Parts.{StopsCompiling}
 use Rattle.srmtrun.specs.declared.still.TheConstants.{LIMITS}
 use Rattle.srmtrun.specs.declared.words.Mode.TheVariants.{Single}

@@ -1,5 +1,3 @@
-use Rattle.std.proofs.Common.{◌≡◌, subst, Result, List, ℕ}
-use Rattle.std.specs.Prelude.{IfOk}
 use Rattle.srmtrun.proofs.tests.schedules.pair_from.Goals as goal
 
 pub pair_of-requires : goal.pair_of-requires
