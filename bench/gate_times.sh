@@ -1,0 +1,60 @@
+#!/usr/bin/env bash
+# How much processor time the gate spends on each crate: its own proofs, its tests, and its must-fail edits.
+# Runs `rt ci` with the words given and looks at its processes once a second, so a figure can be short by a second a process.
+# Usage: bench/gate_times.sh [rt ci's words]; for a run from nothing: bench/gate_times.sh --anew
+set -u
+cd "$(dirname "$0")/.."
+seen=$(mktemp -d)
+trap 'rm -rf "$seen"' EXIT
+
+# all processes that this run of the gate has started
+below() {
+  local child
+  for child in $(ps -o pid= --ppid "$1" 2>/dev/null); do
+    echo "$child"
+    below "$child"
+  done
+}
+
+# the crate, what is checked of it, and the seconds so far, in a file for each process
+look() {
+  local id words place kind crate clock
+  clock=$(getconf CLK_TCK)
+  for id in $(below "$1"); do
+    words=$(tr '\0' ' ' <"/proc/$id/cmdline" 2>/dev/null) || continue
+    case $words in *"rattle check"* | *"rattle build"*) ;; *) continue ;; esac
+    place=$(readlink "/proc/$id/cwd") || continue
+    crate=${words##*--crate-name }
+    crate=${crate%% *}
+    case "$place $words" in
+      */rt-edit-*) kind=edits ;;
+      *" --test "*) kind=tests ;;
+      *) kind=own ;;
+    esac
+    awk -v crate="$crate" -v kind="$kind" -v clock="$clock" '{ print crate, kind, ($14 + $15) / clock }' "/proc/$id/stat" >"$seen/$id.new" 2>/dev/null &&
+      mv "$seen/$id.new" "$seen/$id"
+  done
+}
+
+begun=$(date +%s)
+rt ci "$@" >"$seen/log" 2>&1 &
+gate=$!
+while kill -0 "$gate" 2>/dev/null; do
+  look "$gate"
+  sleep 1
+done
+wait "$gate"
+status=$?
+tail -n 1 "$seen/log"
+rm -f "$seen/log"
+cat "$seen"/* 2>/dev/null | awk -v clock="$(($(date +%s) - begun))" '
+  { time[$1, $2] += $3; all[$2] += $3; sum[$1] += $3; total += $3 }
+  END {
+    print "| crate | own | tests | edits | in all (seconds) |"
+    print "|---|---|---|---|---|"
+    for (crate in sum) printf "| %s | %.0f | %.0f | %.0f | %.0f |\n", crate, time[crate, "own"], time[crate, "tests"], time[crate, "edits"], sum[crate] | "sort -t\"|\" -k6 -n -r"
+    close("sort -t\"|\" -k6 -n -r")
+    printf "| all | %.0f | %.0f | %.0f | %.0f |\n", all["own"], all["tests"], all["edits"], total
+    printf "%d minutes of processor time, %d by the clock\n", total / 60, clock / 60
+  }'
+exit "$status"
