@@ -18,3 +18,4 @@ pub mod ContentsKeep
 pub mod UnitsKeep
 pub mod ContentsFit
 pub mod SourceStatementViewLaws
+pub mod FunctionsFit

@@ -1,5 +1,6 @@
 -- Worked examples: sources, as trees, and what the ordered function answers.
-use Rattle.std.proofs.Common.{◌≡◌, ℕ, Bool as Test, true, false, List, [], ◌∷◌, Some, None, Result, Ok, Err, refl}
+use Rattle.std.specs.Prelude.{is_ok}
+use Rattle.std.proofs.Common.{◌≡◌, ℕ, true, false, List, [], ◌∷◌, Some, None, Ok, Err, refl}
 use Rattle.srmt_base.specs.declared.ty.Ty.TheVariants as ty
 use Rattle.srmt_base.specs.declared.op.Op.TheVariants as o
 use Rattle.c_types.specs.Types.{same_type, plain, integer, returning}
@@ -10,7 +11,6 @@ use Rattle.c_typed.specs.declared.program.Numbered.TheVariants as numbered
 use Rattle.c_typed.specs.Typed.{value, constant}
 use Rattle.c_typed.specs.Statements as t
 use Rattle.c_typed.specs.Statements.{Program, Function}
-use Rattle.typing_rules.specs.declared.refusal.TypeRefusal.{TypeRefusal}
 use Rattle.typing_rules.specs.declared.refusal.TypeRefusal.TheVariants as r
 use Rattle.typing_rules.specs.Source.{at, name, number, call, binary, assignment, no_exprs, first_expr, declarator, no_parts, pointer_part, array_part, function_part, no_parameters, first_parameter, Parameters}
 use Rattle.typing_rules.specs.SourceUnits.{single, braced, no_initials, first_initial, expression, return, no_items, declaration, statement, function, declaration_of, Items, External, Unit as SourceUnit}
@@ -18,10 +18,6 @@ use Rattle.typing_rules.specs.Ordered.{term_of}
 use Rattle.typing_rules.specs.OrderedDeclarations.{insides, cells_given}
 use Rattle.typing_rules.specs.OrderedStatements.{stmt_of}
 use Rattle.typing_rules.specs.OrderedUnits.{checked}
-
-abbrev is_fine : Result Program TypeRefusal → Test
-is_fine (Ok p) = true
-is_fine (Err refusal) = false
 
 -- all that the function computes with
 running : Unit {0}
@@ -313,7 +309,7 @@ two_files_binary =
     2000001 ∷
     []
 
-two_files_is_typed : is_fine (checked two_files (Some two_files_binary)) ≡ true
+two_files_is_typed : is_ok (checked two_files (Some two_files_binary)) ≡ true
 unfolding running
 two_files_is_typed = refl
 

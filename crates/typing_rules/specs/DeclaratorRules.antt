@@ -140,11 +140,17 @@ abbrev pub parameter_of : Lines → Result Qualified TypeRefusal → Result Qual
 parameter_of at (Err refusal) = Err refusal
 parameter_of at (Ok t) = if is_void t.type then Err (Mismatch at.rules 14) else Ok (adjusted t)
 
+-- the line of a name, or another where there is none
+abbrev pub line_or : ℕ → Option Named → ℕ
+line_or other None = other
+line_or other (Some name) = name.line
+
+-- a parameter as a local: without a name it has the line of its first specifier
 abbrev pub parameter_local : Declarator → ℕ → Qualified → Local
 parameter_local d specifiers type =
     record {
       name = option_map (λ n. n.bytes) (name_of d);
-      line = (lines_of d specifiers).rules;
+      line = line_or specifiers (name_of d);
       first = first_of_declarator d;
       type = type;
       is_addressed = false;

@@ -1,8 +1,9 @@
 -- What holds of every typed program.
-use Rattle.std.specs.Prelude.{ℕ, ◌<◌, List, [], ◌∷◌}
-use Rattle.c_types.specs.Types.{cells_of}
+use Rattle.std.specs.Prelude.{◌≡◌, ℕ, ◌<◌, ◌≤◌, List, [], ◌∷◌, length, IsTrue}
+use Rattle.c_types.specs.Types.{cells_of, is_function, parameters_of}
 use Rattle.c_typed.specs.declared.program.StartCell.{StartCell}
-use Rattle.c_typed.specs.Statements.{TypedFile, Program}
+use Rattle.c_typed.specs.Statements.{Function, TypedFile, Program}
+use Rattle.typing_rules.specs.Limits.{most_parameters}
 
 -- each element of a list is such
 abbrev pub Each : {A : Type 0} → (A → Type 0) → List A → Type 0
@@ -19,3 +20,12 @@ StaticsFit file = Each (λ s. AreWithin (cells_of s.type.type) s.cells) file.sta
 
 abbrev pub ContentsFit : Program → Type 0
 ContentsFit program = StaticsFit program.main_file × StaticsFit program.binary_file
+
+-- a function has the type of a function, with as many parameters as it has, at most so many as may be
+pub record HasFunctionType (f : Function) : Type 0 where
+  pub is_one : IsTrue (is_function f.type)
+  pub as_many : length (parameters_of f.type) ≡ f.parameters
+  pub at_most : f.parameters ≤ most_parameters
+
+abbrev pub FunctionsFit : Program → Type 0
+FunctionsFit program = Each HasFunctionType program.main_file.functions × Each HasFunctionType program.binary_file.functions

@@ -5,7 +5,7 @@ ghost use Rattle.c_typed.specs.Statements.{Program};
 ghost use Rattle.typing_rules.specs.SourceUnits.{Unit as SourceUnit};
 ghost use Rattle.typing_rules.specs.OrderedUnits.{checked};
 ghost use Rattle.typing_rules.specs.TypingUnits.{Types};
-ghost use Rattle.typing_rules.specs.Laws.{ContentsFit};
+ghost use Rattle.typing_rules.specs.Laws.{ContentsFit, FunctionsFit};
 ghost use Rattle.typing_rules.specs.declared.refusal.TypeRefusal.{TypeRefusal as Refusal};
 
 /// The ordered function answers a program exactly where the relation has it.
@@ -26,4 +26,9 @@ pub fn refused_has_no_typing()
 /// What each static object of a typed program starts with fits its cells.
 pub fn contents_fit()
     ensures { (main : SourceUnit) (binary : Option SourceUnit) (program : Program) → Types main binary program → ContentsFit program }
+{}
+
+/// Each function of a typed program has the type of a function, with as many parameters as it has.
+pub fn functions_fit()
+    ensures { (main : SourceUnit) (binary : Option SourceUnit) (program : Program) → Types main binary program → FunctionsFit program }
 {}

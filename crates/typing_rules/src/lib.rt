@@ -10,5 +10,5 @@
 mod laws;
 mod refusal;
 
-pub use laws::{contents_fit, one_typing, refused_has_no_typing, typing_is_exact};
+pub use laws::{contents_fit, functions_fit, one_typing, refused_has_no_typing, typing_is_exact};
 pub use refusal::{Size, TypeRefusal};
