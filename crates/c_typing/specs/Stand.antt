@@ -1,5 +1,9 @@
 -- What the trees of the code stand for, in a table of types and in all that have more.
-use Rattle.std.specs.Prelude.{◌≡◌, ℕ, List}
+use Rattle.std.specs.Prelude.{◌≡◌, ℕ, List, Result, Ok, Err}
+use Rattle.std.specs.declared.alloc.AllocError.{AllocError}
+use Rattle.c_types.specs.Rules.{Ruled}
+use Rattle.typing_rules.specs.declared.refusal.TypeRefusal.{TypeRefusal}
+use Rattle.typing_rules.specs.declared.refusal.TypeRefusal.TheVariants.{Mismatch, Memory}
 use Rattle.c_types.specs.declared.type_ref.Row.{Row}
 use Rattle.c_types.specs.Table.{type_at, Extends}
 use Rattle.c_typed.specs.declared.value.Value as v
@@ -41,3 +45,15 @@ pub record IsMade (x : Typed) (line : ℕ) (ty : TypeRef) (is : node.ValueNode) 
   pub ty_is : x.value.ty ≡ ty
   pub node_is : x.value.node ≡ is
   pub constant_is : x.constant ≡ constant
+
+-- what was made, or want of memory
+abbrev pub IsOrMemory : Result Typed TypeRefusal → Result Typed AllocError → Type 0
+IsOrMemory (Ok x) made = made ≡ Ok x
+IsOrMemory (Err refusal) made = refusal ≡ Memory
+
+-- what a rule allows is made so, or want of memory; or the rule is broken that the refusal names
+abbrev pub IsRuled : List Row → ℕ → Result Typed TypeRefusal → {A : Type 0} → Ruled A → (A → Value) → Type 0
+IsRuled rows at (Ok x) (Ok f) make = MeansTyped rows x (make f)
+IsRuled rows at (Ok x) (Err rule) make = ⊥
+IsRuled rows at (Err refusal) (Ok f) make = refusal ≡ Memory
+IsRuled rows at (Err refusal) (Err rule) make = refusal ≡ Mismatch at rule

@@ -30,7 +30,13 @@ pub(crate) fn arithmetic(
     ensures { (rows : List Row) (t : CType) (v w : tree.Value) → Stands rows ty t → MeansTyped rows a v → MeansTyped rows b w → ty_of (tree.type_of v) ≡ computes → IfOk result (λ r. MeansTyped rows r (tree.value line t (tree.arithmetic op at v w))) }
 {
     let constant = constants::computed(op, computes, a.constant, b.constant);
-    make(alloc, line, ty, ValueNode::Arithmetic(op, at, a.value, b.value), constant)
+    make(
+        alloc,
+        line,
+        ty,
+        ValueNode::Arithmetic(op, at, a.value, b.value),
+        constant,
+    )
 }
 
 /// A pointer and an integer, added or subtracted, of which the pointer stands first or second (C11 6.5.6p8).
@@ -61,7 +67,13 @@ pub(crate) fn difference(
 ) -> Result<Typed, AllocError>
     ensures { (rows : List Row) (t : CType) (v w : tree.Value) → Stands rows ty t → MeansTyped rows a v → MeansTyped rows b w → IfOk result (λ r. MeansTyped rows r (tree.value line t (tree.difference at v w))) }
 {
-    make(alloc, line, ty, ValueNode::Difference(at, a.value, b.value), Constant::NoForm)
+    make(
+        alloc,
+        line,
+        ty,
+        ValueNode::Difference(at, a.value, b.value),
+        Constant::NoForm,
+    )
 }
 
 /// Two pointers compared (C11 6.5.8, 6.5.9).
@@ -76,5 +88,11 @@ pub(crate) fn comparison(
 ) -> Result<Typed, AllocError>
     ensures { (rows : List Row) (t : CType) (v w : tree.Value) → Stands rows ty t → MeansTyped rows a v → MeansTyped rows b w → IfOk result (λ r. MeansTyped rows r (tree.value line t (tree.comparison op at v w))) }
 {
-    make(alloc, line, ty, ValueNode::Comparison(op, at, a.value, b.value), Constant::NoForm)
+    make(
+        alloc,
+        line,
+        ty,
+        ValueNode::Comparison(op, at, a.value, b.value),
+        Constant::NoForm,
+    )
 }

@@ -21,7 +21,12 @@ pub fn promoted_value(alloc: Global, types: &Types, operand: Written) -> Result<
 }
 
 /// A null pointer constant as a pointer of a type (C11 6.3.2.3p3).
-pub fn null_of(alloc: Global, types: &Types, to: TypeRef, operand: Typed) -> Result<Typed, AllocError>
+pub fn null_of(
+    alloc: Global,
+    types: &Types,
+    to: TypeRef,
+    operand: Typed,
+) -> Result<Typed, AllocError>
     ensures { (t : CType) (v : tree.Value) → Stands types.now to t → MeansTyped types.now operand v → IfOk result (λ r. MeansTyped types.now r (terms.null_of t v)) }
 {
     let line = operand.value.get().line;
@@ -29,7 +34,12 @@ pub fn null_of(alloc: Global, types: &Types, to: TypeRef, operand: Typed) -> Res
 }
 
 /// A pointer as one of a type that differs in qualifiers, if in anything (C11 6.3.2.3p2).
-pub fn repointed(alloc: Global, types: &Types, to: TypeRef, operand: Typed) -> Result<Typed, AllocError>
+pub fn repointed(
+    alloc: Global,
+    types: &Types,
+    to: TypeRef,
+    operand: Typed,
+) -> Result<Typed, AllocError>
     ensures { (t : CType) (v : tree.Value) → Stands types.now to t → MeansTyped types.now operand v → IfOk result (λ r. MeansTyped types.now r (terms.repointed t v)) }
 {
     if types.is_one(operand.value.get().ty, to) {
@@ -40,11 +50,22 @@ pub fn repointed(alloc: Global, types: &Types, to: TypeRef, operand: Typed) -> R
 }
 
 /// A pointer as one of another type.
-fn requalified(alloc: Global, types: &Types, to: TypeRef, operand: Typed) -> Result<Typed, AllocError>
+fn requalified(
+    alloc: Global,
+    types: &Types,
+    to: TypeRef,
+    operand: Typed,
+) -> Result<Typed, AllocError>
     ensures { (t : CType) (v : tree.Value) → Stands types.now to t → MeansTyped types.now operand v → IfOk result (λ r. MeansTyped types.now r (tree.value (tree.start_of v) t (tree.requalified v))) }
 {
     let line = operand.value.get().line;
-    make(alloc, line, to, ValueNode::Requalified(operand.value), Constant::NoForm)
+    make(
+        alloc,
+        line,
+        to,
+        ValueNode::Requalified(operand.value),
+        Constant::NoForm,
+    )
 }
 
 /// A pointer as a `_Bool` (C11 6.3.1.2).

@@ -1,7 +1,7 @@
-ghost use Rattle.std.specs.Prelude.{List, IfOk, true, false};
+ghost use Rattle.std.specs.Prelude.{◌≡◌, List, IfOk, true, false};
 ghost use Rattle.srmt_base.specs.Types.{IsPromoted};
 ghost use Rattle.c_types.specs.Types.{CType};
-ghost use Rattle.c_types.specs.Rules.{binary_type, computed_type as type_computed};
+ghost use Rattle.c_types.specs.Rules.{binary_type, IsPromotedForm, computed_type as type_computed};
 ghost use Rattle.c_types.specs.Table.{Stands};
 ghost use Rattle.c_types.specs.declared.type_ref.Row.{Row};
 ghost use Rattle.c_typed.specs.Typed as tree;
@@ -166,4 +166,50 @@ fn null_and_pointer(
 {
     let a = null_of(alloc, types, b.value.get().ty, a)?;
     pointers(alloc, line, ty, op, at, a, b)
+}
+
+/// Whether an operator is `-`.
+fn is_difference(op: Op) -> bool
+    ensures { result ≡ terms.is_difference op }
+{
+    match op {
+        Op::Sub => true,
+        Op::Add | Op::Mul | Op::Div | Op::Rem | Op::Shl | Op::Shr => false,
+        Op::And | Op::Or | Op::Xor => false,
+        Op::Lt | Op::Gt | Op::Le | Op::Ge | Op::Eq | Op::Ne => false,
+    }
+}
+
+/// What an operator computes in a form, with its line.
+pub fn binary_value(
+    alloc: Global,
+    types: &Types,
+    line: u32,
+    op: Op,
+    at: u32,
+    form: BinaryForm,
+    a: Written,
+    b: Written,
+) -> Result<Typed, AllocError>
+    requires { IsPromotedForm form }
+    ensures { (v w : terms.Written) → MeansWritten types.now a v → MeansWritten types.now b w → IfOk result (λ r. MeansTyped types.now r (terms.binary_value line op at form v w)) }
+{
+    let ty = result_type(op, form, a.typed.value.get().ty, b.typed.value.get().ty);
+    match form {
+        BinaryForm::Integers(computes) => integers(alloc, types, line, ty, op, at, computes, a, b),
+        BinaryForm::Shift(computes) => shift(alloc, types, line, ty, op, at, computes, a, b),
+        BinaryForm::PointerAndInteger => {
+            pointer_and_integer(alloc, types, line, ty, at, is_difference(op), a.typed, b)
+        }
+        BinaryForm::IntegerAndPointer => {
+            integer_and_pointer(alloc, types, line, ty, at, a, b.typed)
+        }
+        BinaryForm::Pointers => pointers(alloc, line, ty, op, at, a.typed, b.typed),
+        BinaryForm::PointerAndNull => {
+            pointer_and_null(alloc, types, line, ty, op, at, a.typed, b.typed)
+        }
+        BinaryForm::NullAndPointer => {
+            null_and_pointer(alloc, types, line, ty, op, at, a.typed, b.typed)
+        }
+    }
 }

@@ -13,7 +13,12 @@ use srmt_base::Ty;
 use std::alloc::{AllocError, Global};
 
 /// An operand as an integer of a type (C11 6.3.1).
-pub fn converted(alloc: Global, types: &Types, to: Ty, operand: Written) -> Result<Typed, AllocError>
+pub fn converted(
+    alloc: Global,
+    types: &Types,
+    to: Ty,
+    operand: Written,
+) -> Result<Typed, AllocError>
     ensures { (t : terms.Written) → MeansWritten types.now operand t → IfOk result (λ r. MeansTyped types.now r (terms.converted to t)) }
 {
     let from = types.ty(operand.typed.value.get().ty);
