@@ -1,5 +1,5 @@
 -- What nodes of the typed tree mean, from what their parts mean.
-use Rattle.std.proofs.Common.{◌≡◌, ◌≢◌, ℕ, ◌==◌, Bool as Test, true, false, if◌then◌else◌, List, refl, sym, ◌∙◌, ap, subst}
+use Rattle.std.proofs.Common.{◌≡◌, ◌≢◌, ℕ, ◌==◌, Bool as Test, true, false, if◌then◌else◌, List, refl, sym, ◌∙◌, ap}
 use Rattle.std.proofs.lemmas.Bool.{eqb-true}
 use Rattle.srmt_base.specs.declared.ty.Ty.{Ty}
 use Rattle.srmt_base.specs.declared.op.Op.{Op}
@@ -20,7 +20,7 @@ use Rattle.c_typed.specs.declared.value.Value as v
 use Rattle.c_typed.specs.declared.value.ValueNode.TheVariants as vn
 use Rattle.c_typed.specs.Typed.{Value, value, ValueNode, conversion, null, requalified, to_bool, arithmetic, sum, difference, comparison, type_of, start_of}
 use Rattle.c_typed.specs.Constants.{constant_of, mapped, both, of_result}
-use Rattle.c_typed.specs.Views.{value_view, value_node_view}
+use Rattle.c_typed.specs.Views.{value_node_view}
 use Rattle.c_typed.proofs.ViewLaws.{view_value, view_conversion}
 use Rattle.typing_rules.specs.Terms as terms
 use Rattle.c_typing.specs.Stand.{MeansValue, MeansTyped, IsMade, converted_value}

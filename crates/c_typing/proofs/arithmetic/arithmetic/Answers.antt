@@ -1,8 +1,7 @@
-use Rattle.std.proofs.Common.{◌≡◌, refl, ap, sym, ◌∙◌}
+use Rattle.std.proofs.Common.{refl, ◌∙◌}
 use Rattle.std.proofs.lemmas.Result.{IfOk-weaker}
 use Rattle.c_types.specs.Table.{type_at}
 use Rattle.c_typed.specs.Typed as tree
-use Rattle.c_typed.specs.declared.constant.Constant.TheVariants.{NoForm}
 use Rattle.c_typed.specs.declared.value.ValueNode.TheVariants as vn
 use Rattle.c_typed.proofs.ViewLaws.{view_arithmetic}
 use Rattle.c_typing.proofs.Means.{made-means, arithmetic-constant}

@@ -1,4 +1,4 @@
-use Rattle.std.proofs.Common.{◌≡◌, ap, sym, ◌∙◌, subst}
+use Rattle.std.proofs.Common.{ap, ◌∙◌, subst}
 use Rattle.std.specs.Result.{IfOk}
 use Rattle.c_types.specs.Types.{ty_of}
 use Rattle.c_types.specs.Conversions.{promoted}

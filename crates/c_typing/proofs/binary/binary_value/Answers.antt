@@ -1,15 +1,11 @@
-use Rattle.std.proofs.Common.{◌≡◌, ℕ, List, true, sym, ap, subst}
+use Rattle.std.proofs.Common.{true, sym, subst}
 use Rattle.std.specs.Result.{IfOk}
-use Rattle.srmt_base.specs.declared.op.Op.{Op}
-use Rattle.c_types.specs.declared.form.BinaryForm.{BinaryForm}
 use Rattle.c_types.specs.declared.form.BinaryForm.TheVariants as form
-use Rattle.c_types.specs.declared.type_ref.Row.{Row}
-use Rattle.c_types.specs.declared.type_ref.TypeRef.{TypeRef}
 use Rattle.c_types.specs.Rules.{binary_type}
 use Rattle.c_types.specs.Table.{Stands}
 use Rattle.c_typed.specs.Typed as tree
 use Rattle.typing_rules.specs.Terms as terms
-use Rattle.c_typing.specs.Stand.{MeansTyped, MeansWritten}
+use Rattle.c_typing.specs.Stand.{MeansTyped}
 use Rattle.c_typing.proofs.Means.{stands-of-means}
 use Rattle.c_typing.proofs.binary.binary_value.Goals as goal
 
@@ -75,4 +71,4 @@ returns-in-PointerAndInteger c v w a b =
     let stands = subst (λ f. Stands rows c.result_type-ty.result (binary_type c.args.op f (terms.written_type v) (terms.written_type w))) c.in-PointerAndInteger.is (c.result_type-ty.ensures rows _ _ first second) in
     let made = c.pointer_and_integer.ensures (binary_type c.args.op form.PointerAndInteger (terms.written_type v) (terms.written_type w)) v.value w stands a.typed b in
     subst (λ f. IfOk c.pointer_and_integer.result (λ r. MeansTyped rows r (terms.binary_value c.args.line c.args.op c.args.at f v w))) (sym c.in-PointerAndInteger.is)
-      (subst (λ less. IfOk c.pointer_and_integer.result (λ r. MeansTyped rows r (tree.value c.args.line (binary_type c.args.op form.PointerAndInteger (terms.written_type v) (terms.written_type w)) (tree.sum c.args.at less true v.value (terms.promoted_value w))))) c.is_difference.ensures made)
+    (subst (λ less. IfOk c.pointer_and_integer.result (λ r. MeansTyped rows r (tree.value c.args.line (binary_type c.args.op form.PointerAndInteger (terms.written_type v) (terms.written_type w)) (tree.sum c.args.at less true v.value (terms.promoted_value w))))) c.is_difference.ensures made)

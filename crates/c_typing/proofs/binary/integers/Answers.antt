@@ -1,5 +1,3 @@
-use Rattle.std.proofs.Common.{◌≡◌, sym, ap, ◌∙◌}
-use Rattle.std.proofs.lemmas.Result.{IfOk-at_ok}
 use Rattle.typing_rules.specs.Terms as terms
 use Rattle.c_typing.proofs.Means.{converted-type}
 use Rattle.c_typing.proofs.binary.integers.Goals as goal

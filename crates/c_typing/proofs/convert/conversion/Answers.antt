@@ -1,4 +1,4 @@
-use Rattle.std.proofs.Common.{◌≡◌, ap, sym, ◌∙◌}
+use Rattle.std.proofs.Common.{ap}
 use Rattle.c_typing.proofs.Means.{conversion-means, conversion-constant}
 use Rattle.c_typing.proofs.convert.conversion.Goals as goal
 
