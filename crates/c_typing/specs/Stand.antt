@@ -1,7 +1,9 @@
 -- What the trees of the code stand for, in a table of types and in all that have more.
 use Rattle.std.specs.Prelude.{◌≡◌, ℕ, List, Result, Ok, Err, IfOk}
 use Rattle.std.specs.declared.alloc.AllocError.{AllocError}
-use Rattle.c_types.specs.Rules.{Ruled}
+use Rattle.c_types.specs.Rules.{Ruled, binary_form}
+use Rattle.c_types.specs.declared.form.BinaryForm.{BinaryForm}
+use Rattle.srmt_base.specs.declared.op.Op.{Op}
 use Rattle.typing_rules.specs.declared.refusal.TypeRefusal.{TypeRefusal}
 use Rattle.typing_rules.specs.declared.refusal.TypeRefusal.TheVariants.{Mismatch, Memory}
 use Rattle.c_types.specs.declared.type_ref.Row.{Row}
@@ -13,7 +15,7 @@ use Rattle.c_typed.specs.declared.constant.Constant.{Constant}
 use Rattle.c_types.specs.declared.type_ref.TypeRef.{TypeRef}
 use Rattle.srmt_base.specs.declared.ty.Ty.{Ty}
 use Rattle.c_types.specs.Types.{CType, integer}
-use Rattle.c_typed.specs.Typed.{Place, Value, value, conversion}
+use Rattle.c_typed.specs.Typed.{Place, Value, value, arithmetic, conversion}
 use Rattle.c_typed.specs.Constants.{constant_of}
 use Rattle.c_typed.specs.Views.{value_view, place_view}
 use Rattle.typing_rules.specs.Terms as terms
@@ -84,3 +86,17 @@ WrittenAndTyped rows ty a b P = (t : CType) (v : terms.Written) (w : Value) → 
 
 abbrev pub Operands : List Row → Written → Written → (terms.Written → terms.Written → Type 0) → Type 0
 Operands rows a b P = (v w : terms.Written) → MeansWritten rows a v → MeansWritten rows b w → P v w
+
+-- ---- nodes of two operands
+
+-- the form of an operator on two operands, or the rule that is broken
+abbrev pub form_of : Op → terms.Written → terms.Written → Ruled BinaryForm
+form_of op a b = binary_form op (terms.operand_of a.value) (terms.operand_of b.value)
+
+-- both converted to one type
+abbrev pub integers_value : ℕ → CType → Op → ℕ → Ty → terms.Written → terms.Written → Value
+integers_value line t op at ty a b = value line t (arithmetic op at (terms.converted ty a) (terms.converted ty b))
+
+-- the left one converted, the right one promoted
+abbrev pub shift_value : ℕ → CType → Op → ℕ → Ty → terms.Written → terms.Written → Value
+shift_value line t op at ty a b = value line t (arithmetic op at (terms.converted ty a) (terms.promoted_value b))

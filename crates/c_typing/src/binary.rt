@@ -6,7 +6,7 @@ ghost use Rattle.c_types.specs.Table.{Stands};
 ghost use Rattle.c_types.specs.declared.type_ref.Row.{Row};
 ghost use Rattle.c_typed.specs.Typed as tree;
 ghost use Rattle.typing_rules.specs.Terms as terms;
-ghost use Rattle.c_typing.specs.Stand.{TypedTwo, WrittenTwo, TypedAndWritten, WrittenAndTyped, Operands, Makes, MeansTyped, MeansWritten};
+ghost use Rattle.c_typing.specs.Stand.{integers_value, shift_value, TypedTwo, WrittenTwo, TypedAndWritten, WrittenAndTyped, Operands, Makes, MeansTyped, MeansWritten};
 
 use crate::arithmetic::{arithmetic, comparison, difference, sum};
 use crate::assign::{null_of, promoted_value};
@@ -55,7 +55,7 @@ fn integers(
     b: Written,
 ) -> Result<Typed, AllocError>
     requires { IsPromoted computes }
-    ensures { WrittenTwo types.now ty a b (λ t v w. Makes types.now result (tree.value line t (tree.arithmetic op at (terms.converted computes v) (terms.converted computes w)))) }
+    ensures { WrittenTwo types.now ty a b (λ t v w. Makes types.now result (integers_value line t op at computes v w)) }
 {
     let a = converted(alloc, types, computes, a)?;
     let b = converted(alloc, types, computes, b)?;
@@ -75,7 +75,7 @@ fn shift(
     b: Written,
 ) -> Result<Typed, AllocError>
     requires { IsPromoted computes }
-    ensures { WrittenTwo types.now ty a b (λ t v w. Makes types.now result (tree.value line t (tree.arithmetic op at (terms.converted computes v) (terms.promoted_value w)))) }
+    ensures { WrittenTwo types.now ty a b (λ t v w. Makes types.now result (shift_value line t op at computes v w)) }
 {
     let a = converted(alloc, types, computes, a)?;
     let b = promoted_value(alloc, types, b)?;

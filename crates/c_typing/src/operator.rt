@@ -1,9 +1,8 @@
 ghost use Rattle.std.specs.Prelude.{◌≡◌};
-ghost use Rattle.c_types.specs.Rules.{binary_form};
 ghost use Rattle.c_types.specs.Table.{operand_at};
 ghost use Rattle.c_typed.specs.Typed as tree;
 ghost use Rattle.typing_rules.specs.Terms as terms;
-ghost use Rattle.c_typing.specs.Stand.{Operands, MeansTyped, MeansWritten, IsRuled, IsOrMemory};
+ghost use Rattle.c_typing.specs.Stand.{form_of, Operands, MeansTyped, MeansWritten, IsRuled, IsOrMemory};
 
 use crate::binary::binary_value;
 use crate::constants;
@@ -44,7 +43,7 @@ pub fn computed(
     a: Written,
     b: Written,
 ) -> Result<Typed, TypeRefusal>
-    ensures { Operands types.now a b (λ v w. IsRuled types.now at result (binary_form op (terms.operand_of v.value) (terms.operand_of w.value)) (λ f. terms.binary_value line op at f v w)) }
+    ensures { Operands types.now a b (λ v w. IsRuled types.now at result (form_of op v w) (λ f. terms.binary_value line op at f v w)) }
 {
     match types.binary_form(op, operand_of(types, &a.typed), operand_of(types, &b.typed)) {
         Err(rule) => Err(TypeRefusal::Mismatch(at, rule)),
