@@ -3,12 +3,12 @@
 --
 -- A value of type void can stand where nothing is made of it. Rule 14 is that one is used. Beside it such an operand
 -- breaks no other rule, but rule 5 where a value is tested, and rule 6 beside a branch with a value.
-use Rattle.std.specs.Prelude.{ℕ, ◌==◌, Bool as Test, true, false, not, ◌&&◌, ◌||◌, if◌then◌else◌, nat_le, Result, Ok, Err}
+use Rattle.std.specs.Prelude.{ℕ, ◌==◌, Bool as Test, true, false, not, ◌&&◌, ◌||◌, if◌then◌else◌, nat_le, Result, Ok, Err, ⊤}
 use Rattle.srmt_base.specs.declared.ty.Ty.{Ty}
 use Rattle.srmt_base.specs.declared.ty.Ty.TheVariants.{Bool, Int, UInt}
 use Rattle.srmt_base.specs.declared.op.Op.{Op}
 use Rattle.srmt_base.specs.declared.op.Op.TheVariants.{Add, Sub, Mul, Div, Rem, Shl, Shr, And, Or, Xor, Lt, Gt, Le, Ge, Eq, Ne}
-use Rattle.srmt_base.specs.Types.{ty_code}
+use Rattle.srmt_base.specs.Types.{ty_code, IsPromoted}
 use Rattle.srmt_base.specs.Arith.{is_comparison}
 use Rattle.c_types.specs.declared.form.BinaryForm.{BinaryForm}
 use Rattle.c_types.specs.declared.form.BinaryForm.TheVariants as form
@@ -45,6 +45,16 @@ refused rule a b = Err (refused_rule rule a b)
 -- a value that is there, and is no integer
 abbrev pub is_other : CType → Test
 is_other t = not (is_integer t || is_void t)
+
+-- where integers are computed on, it is at a promoted type
+abbrev pub IsPromotedForm : BinaryForm → Type 0
+IsPromotedForm (form.Integers ty) = IsPromoted ty
+IsPromotedForm (form.Shift ty) = IsPromoted ty
+IsPromotedForm form.PointerAndInteger = ⊤
+IsPromotedForm form.IntegerAndPointer = ⊤
+IsPromotedForm form.Pointers = ⊤
+IsPromotedForm form.PointerAndNull = ⊤
+IsPromotedForm form.NullAndPointer = ⊤
 
 -- ---- operators on integers
 

@@ -1,4 +1,5 @@
 ghost use Rattle.std.specs.Prelude.{◌≡◌};
+ghost use Rattle.srmt_base.specs.Types.{IsPromoted};
 ghost use Rattle.c_types.specs.Types.{cells_of_integer, bytes_of_integer};
 ghost use Rattle.c_types.specs.Conversions.{promoted as promoted_of, common as common_of, usual as usual_of};
 
@@ -27,7 +28,8 @@ pub fn integer_bytes(ty: Ty) -> u32
 
 /// The type to which the integer promotions convert (C11 6.3.1.1p2).
 pub fn promoted(ty: Ty) -> Ty
-    ensures { result ≡ promoted_of ty }
+    ensures exact { result ≡ promoted_of ty }
+    ensures promoted { IsPromoted result }
 {
     match ty {
         Ty::Bool | Ty::Char | Ty::SChar | Ty::UChar => Ty::Int,
@@ -38,7 +40,10 @@ pub fn promoted(ty: Ty) -> Ty
 
 /// The common type of two promoted types (C11 6.3.1.8p1).
 fn common(a: Ty, b: Ty) -> Ty
-    ensures { result ≡ common_of a b }
+    requires first { IsPromoted a }
+    requires second { IsPromoted b }
+    ensures exact { result ≡ common_of a b }
+    ensures promoted { IsPromoted result }
 {
     if b.width() < a.width() {
         a
@@ -53,7 +58,8 @@ fn common(a: Ty, b: Ty) -> Ty
 
 /// The type to which the usual arithmetic conversions convert (C11 6.3.1.8).
 pub fn usual(a: Ty, b: Ty) -> Ty
-    ensures { result ≡ usual_of a b }
+    ensures exact { result ≡ usual_of a b }
+    ensures promoted { IsPromoted result }
 {
     common(promoted(a), promoted(b))
 }

@@ -1,4 +1,4 @@
-ghost use Rattle.std.specs.Prelude.{◌≡◌, not, ◌||◌};
+ghost use Rattle.std.specs.Prelude.{◌≡◌, IfOk};
 ghost use Rattle.c_types.specs.Types.{point_to_one as one_target};
 ghost use Rattle.c_types.specs.Rules as rule;
 ghost use Rattle.c_types.specs.Table.{type_at, operand_at};
@@ -31,7 +31,8 @@ impl Types {
 
     /// `* / %` and `& ^ |` (C11 6.5.5p2, 6.5.10p2, 6.5.11p2, 6.5.12p2).
     fn arithmetic_form(&self, a: TypeRef, b: TypeRef) -> Result<BinaryForm, u8>
-        ensures { result ≡ rule.arithmetic_form (type_at self.now a) (type_at self.now b) }
+        ensures exact { result ≡ rule.arithmetic_form (type_at self.now a) (type_at self.now b) }
+        ensures promoted { IfOk result rule.IsPromotedForm }
     {
         if self.is_integer(a) && self.is_integer(b) {
             Ok(BinaryForm::Integers(usual(self.ty(a), self.ty(b))))
@@ -44,7 +45,8 @@ impl Types {
 
     /// `<< >>` (C11 6.5.7p2).
     fn shift_form(&self, a: TypeRef, b: TypeRef) -> Result<BinaryForm, u8>
-        ensures { result ≡ rule.shift_form (type_at self.now a) (type_at self.now b) }
+        ensures exact { result ≡ rule.shift_form (type_at self.now a) (type_at self.now b) }
+        ensures promoted { IfOk result rule.IsPromotedForm }
     {
         if self.is_integer(a) && self.is_integer(b) {
             Ok(BinaryForm::Shift(promoted(self.ty(a))))
@@ -57,7 +59,8 @@ impl Types {
 
     /// `+ -` with a pointer on the left, if there is one (C11 6.5.6p2, p3).
     fn step_form(&self, a: TypeRef, b: TypeRef) -> Result<BinaryForm, u8>
-        ensures { result ≡ rule.step_form (type_at self.now a) (type_at self.now b) }
+        ensures exact { result ≡ rule.step_form (type_at self.now a) (type_at self.now b) }
+        ensures promoted { IfOk result rule.IsPromotedForm }
     {
         if self.is_integer(a) && self.is_integer(b) {
             Ok(BinaryForm::Integers(usual(self.ty(a), self.ty(b))))
@@ -70,7 +73,8 @@ impl Types {
 
     /// `+` (C11 6.5.6p2).
     fn sum_form(&self, a: TypeRef, b: TypeRef) -> Result<BinaryForm, u8>
-        ensures { result ≡ rule.sum_form (type_at self.now a) (type_at self.now b) }
+        ensures exact { result ≡ rule.sum_form (type_at self.now a) (type_at self.now b) }
+        ensures promoted { IfOk result rule.IsPromotedForm }
     {
         if self.is_integer(a) && self.is_complete_pointer(b) {
             Ok(BinaryForm::IntegerAndPointer)
@@ -90,7 +94,8 @@ impl Types {
 
     /// `-` (C11 6.5.6p3).
     fn difference_form(&self, a: TypeRef, b: TypeRef) -> Result<BinaryForm, u8>
-        ensures { result ≡ rule.difference_form (type_at self.now a) (type_at self.now b) }
+        ensures exact { result ≡ rule.difference_form (type_at self.now a) (type_at self.now b) }
+        ensures promoted { IfOk result rule.IsPromotedForm }
     {
         if self.is_complete_pointer(a) && self.is_complete_pointer(b) && self.point_to_one(a, b) {
             Ok(BinaryForm::Pointers)
@@ -101,7 +106,8 @@ impl Types {
 
     /// `< > <= >=` (C11 6.5.8p2).
     fn relation_form(&self, a: TypeRef, b: TypeRef) -> Result<BinaryForm, u8>
-        ensures { result ≡ rule.relation_form (type_at self.now a) (type_at self.now b) }
+        ensures exact { result ≡ rule.relation_form (type_at self.now a) (type_at self.now b) }
+        ensures promoted { IfOk result rule.IsPromotedForm }
     {
         if self.is_integer(a) && self.is_integer(b) {
             Ok(BinaryForm::Integers(usual(self.ty(a), self.ty(b))))
@@ -114,7 +120,8 @@ impl Types {
 
     /// A pointer and a null pointer constant (C11 6.5.9p2).
     fn null_form(&self, a: OperandRef, b: OperandRef) -> Result<BinaryForm, u8>
-        ensures { result ≡ rule.null_form (operand_at self.now a) (operand_at self.now b) }
+        ensures exact { result ≡ rule.null_form (operand_at self.now a) (operand_at self.now b) }
+        ensures promoted { IfOk result rule.IsPromotedForm }
     {
         if self.is_pointer(a.of) && b.is_null {
             Ok(BinaryForm::PointerAndNull)
@@ -127,7 +134,8 @@ impl Types {
 
     /// `== !=` (C11 6.5.9p2).
     fn equality_form(&self, a: OperandRef, b: OperandRef) -> Result<BinaryForm, u8>
-        ensures { result ≡ rule.equality_form (operand_at self.now a) (operand_at self.now b) }
+        ensures exact { result ≡ rule.equality_form (operand_at self.now a) (operand_at self.now b) }
+        ensures promoted { IfOk result rule.IsPromotedForm }
     {
         if self.is_integer(a.of) && self.is_integer(b.of) {
             Ok(BinaryForm::Integers(usual(self.ty(a.of), self.ty(b.of))))
@@ -140,7 +148,8 @@ impl Types {
 
     /// What an operator between two operands computes on, or the number of the rule that is broken.
     pub fn binary_form(&self, op: Op, a: OperandRef, b: OperandRef) -> Result<BinaryForm, u8>
-        ensures { result ≡ rule.binary_form op (operand_at self.now a) (operand_at self.now b) }
+        ensures exact { result ≡ rule.binary_form op (operand_at self.now a) (operand_at self.now b) }
+        ensures promoted { IfOk result rule.IsPromotedForm }
     {
         match op {
             Op::Add => self.sum_form(a.of, b.of),
@@ -155,7 +164,8 @@ impl Types {
 
     /// What the operator of a compound assignment computes on (C11 6.5.16.2), or the number of the rule that is broken.
     fn compound_form(&self, op: Op, a: TypeRef, b: TypeRef) -> Result<BinaryForm, u8>
-        ensures { result ≡ rule.compound_form op (type_at self.now a) (type_at self.now b) }
+        ensures exact { result ≡ rule.compound_form op (type_at self.now a) (type_at self.now b) }
+        ensures promoted { IfOk result rule.IsPromotedForm }
     {
         match op {
             Op::Add | Op::Sub => self.step_form(a, b),
@@ -174,7 +184,8 @@ impl Types {
         a: TypeRef,
         b: TypeRef,
     ) -> Result<BinaryForm, u8>
-        ensures { result ≡ rule.update_form op may_change (type_at self.now a) (type_at self.now b) }
+        ensures exact { result ≡ rule.update_form op may_change (type_at self.now a) (type_at self.now b) }
+        ensures promoted { IfOk result rule.IsPromotedForm }
     {
         beside(may_change, 7, self.compound_form(op, a, b))
     }

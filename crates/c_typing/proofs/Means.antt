@@ -1,5 +1,5 @@
 -- What nodes of the typed tree mean, from what their parts mean.
-use Rattle.std.proofs.Common.{◌≡◌, ◌≢◌, ℕ, ◌==◌, Bool as Test, true, false, if◌then◌else◌, List, refl, sym, ◌∙◌, ap, subst}
+use Rattle.std.proofs.Common.{◌≡◌, ◌≢◌, ℕ, ◌==◌, Bool as Test, true, false, if◌then◌else◌, List, refl, sym, ◌∙◌, ap}
 use Rattle.std.proofs.lemmas.Bool.{eqb-true}
 use Rattle.srmt_base.specs.declared.ty.Ty.{Ty}
 use Rattle.srmt_base.specs.declared.op.Op.{Op}
@@ -20,7 +20,7 @@ use Rattle.c_typed.specs.declared.value.Value as v
 use Rattle.c_typed.specs.declared.value.ValueNode.TheVariants as vn
 use Rattle.c_typed.specs.Typed.{Value, value, ValueNode, conversion, null, requalified, to_bool, arithmetic, sum, difference, comparison, type_of, start_of}
 use Rattle.c_typed.specs.Constants.{constant_of, mapped, both, of_result}
-use Rattle.c_typed.specs.Views.{value_view, value_node_view}
+use Rattle.c_typed.specs.Views.{value_node_view}
 use Rattle.c_typed.proofs.ViewLaws.{view_value, view_conversion}
 use Rattle.typing_rules.specs.Terms as terms
 use Rattle.c_typing.specs.Stand.{MeansValue, MeansTyped, IsMade, converted_value}
@@ -35,10 +35,10 @@ pub conversion-means : (rows : List Row) (x y : v.Value) (t : terms.Written) (fi
     → x.line ≡ first → x.ty ≡ ref.Integer to → x.node ≡ vn.Conversion first y → first ≡ t.first → MeansValue rows y t.value → MeansValue rows x (converted_value to t)
 conversion-means rows x y t first to line ty node at m = record {
   always = λ later more.
-    view_value (type_at later) x
+      view_value (type_at later) x
       ∙ (λ i. value (line i) (type_at later (ty i)) (value_node_view (type_at later) (node i)))
       ∙ ap (value first (integer to)) (view_conversion (type_at later) first y)
-      ∙ (λ i. value (at i) (integer to) (conversion (at i) (m.always later more i)))
+      ∙ (λ i. value (at i) (integer to) (conversion (at i) (m.always later more i)));
 }
 
 pub conversion-constant : (from to : Ty) (c d : Constant) (t : terms.Written) → c ≡ mapped (λ n. Known (convert_of from to n)) d → from ≡ ty_of (terms.written_type t) → d ≡ constant_of t.value
@@ -66,11 +66,11 @@ pub made-means : (rows : List Row) (x : Typed) (line : ℕ) (ty : TypeRef) (node
 made-means rows x line ty node constant made t stands at same n means is = record {
   value = record {
     always = λ later more.
-      view_value (type_at later) x.value
+        view_value (type_at later) x.value
         ∙ (λ i. value (made.line_is i) (type_at later (made.ty_is i)) (value_node_view (type_at later) (made.node_is i)))
-        ∙ (λ i. value (same i) (stands.always later more i) (means later more i))
+        ∙ (λ i. value (same i) (stands.always later more i) (means later more i));
   };
-  constant = made.constant_is ∙ is
+  constant = made.constant_is ∙ is;
 }
 
 pub no-constant-null : (line : ℕ) (t : CType) → NoForm ≡ constant_of (value line t null)

@@ -1,15 +1,21 @@
 -- What the trees of the code stand for, in a table of types and in all that have more.
-use Rattle.std.specs.Prelude.{◌≡◌, ℕ, List}
+use Rattle.std.specs.Prelude.{◌≡◌, ℕ, List, Result, Ok, Err, IfOk}
+use Rattle.std.specs.declared.alloc.AllocError.{AllocError}
+use Rattle.c_types.specs.Rules.{Ruled, binary_form}
+use Rattle.c_types.specs.declared.form.BinaryForm.{BinaryForm}
+use Rattle.srmt_base.specs.declared.op.Op.{Op}
+use Rattle.typing_rules.specs.declared.refusal.TypeRefusal.{TypeRefusal}
+use Rattle.typing_rules.specs.declared.refusal.TypeRefusal.TheVariants.{Mismatch, Memory}
 use Rattle.c_types.specs.declared.type_ref.Row.{Row}
-use Rattle.c_types.specs.Table.{type_at, Extends}
+use Rattle.c_types.specs.Table.{type_at, Extends, Stands}
 use Rattle.c_typed.specs.declared.value.Value as v
 use Rattle.c_typed.specs.declared.value.Place as p
 use Rattle.c_typed.specs.declared.value.ValueNode as node
 use Rattle.c_typed.specs.declared.constant.Constant.{Constant}
 use Rattle.c_types.specs.declared.type_ref.TypeRef.{TypeRef}
 use Rattle.srmt_base.specs.declared.ty.Ty.{Ty}
-use Rattle.c_types.specs.Types.{integer}
-use Rattle.c_typed.specs.Typed.{Place, Value, value, conversion}
+use Rattle.c_types.specs.Types.{CType, integer}
+use Rattle.c_typed.specs.Typed.{Place, Value, value, arithmetic, conversion}
 use Rattle.c_typed.specs.Constants.{constant_of}
 use Rattle.c_typed.specs.Views.{value_view, place_view}
 use Rattle.typing_rules.specs.Terms as terms
@@ -35,9 +41,62 @@ pub record MeansWritten (rows : List Row) (x : Written) (t : terms.Written) : Ty
 abbrev pub converted_value : Ty → terms.Written → Value
 converted_value ty w = value w.first (integer ty) (conversion w.first w.value)
 
+-- what is made where memory suffices
+abbrev pub Makes : List Row → Result Typed AllocError → Value → Type 0
+Makes rows result t = IfOk result (λ r. MeansTyped rows r t)
+
 -- a value that was made so
 pub record IsMade (x : Typed) (line : ℕ) (ty : TypeRef) (is : node.ValueNode) (constant : Constant) : Type 0 where
   pub line_is : x.value.line ≡ line
   pub ty_is : x.value.ty ≡ ty
   pub node_is : x.value.node ≡ is
   pub constant_is : x.constant ≡ constant
+
+-- what was made, or want of memory
+abbrev pub IsOrMemory : Result Typed TypeRefusal → Result Typed AllocError → Type 0
+IsOrMemory (Ok x) made = made ≡ Ok x
+IsOrMemory (Err refusal) made = refusal ≡ Memory
+
+-- what a rule allows is made so, or want of memory; or the rule is broken that the refusal names
+abbrev pub IsRuled : List Row → ℕ → Result Typed TypeRefusal → {A : Type 0} → Ruled A → (A → Value) → Type 0
+IsRuled rows at (Ok x) (Ok f) make = MeansTyped rows x (make f)
+IsRuled rows at (Ok x) (Err rule) make = ⊥
+IsRuled rows at (Err refusal) (Ok f) make = refusal ≡ Memory
+IsRuled rows at (Err refusal) (Err rule) make = refusal ≡ Mismatch at rule
+
+-- ---- whatever the parts mean
+
+abbrev pub TypedOne : List Row → TypeRef → Typed → (CType → Value → Type 0) → Type 0
+TypedOne rows ty a P = (t : CType) (v : Value) → Stands rows ty t → MeansTyped rows a v → P t v
+
+abbrev pub WrittenOne : List Row → TypeRef → Written → (CType → terms.Written → Type 0) → Type 0
+WrittenOne rows ty a P = (t : CType) (v : terms.Written) → Stands rows ty t → MeansWritten rows a v → P t v
+
+abbrev pub TypedTwo : List Row → TypeRef → Typed → Typed → (CType → Value → Value → Type 0) → Type 0
+TypedTwo rows ty a b P = (t : CType) (v w : Value) → Stands rows ty t → MeansTyped rows a v → MeansTyped rows b w → P t v w
+
+abbrev pub WrittenTwo : List Row → TypeRef → Written → Written → (CType → terms.Written → terms.Written → Type 0) → Type 0
+WrittenTwo rows ty a b P = (t : CType) (v w : terms.Written) → Stands rows ty t → MeansWritten rows a v → MeansWritten rows b w → P t v w
+
+abbrev pub TypedAndWritten : List Row → TypeRef → Typed → Written → (CType → Value → terms.Written → Type 0) → Type 0
+TypedAndWritten rows ty a b P = (t : CType) (v : Value) (w : terms.Written) → Stands rows ty t → MeansTyped rows a v → MeansWritten rows b w → P t v w
+
+abbrev pub WrittenAndTyped : List Row → TypeRef → Written → Typed → (CType → terms.Written → Value → Type 0) → Type 0
+WrittenAndTyped rows ty a b P = (t : CType) (v : terms.Written) (w : Value) → Stands rows ty t → MeansWritten rows a v → MeansTyped rows b w → P t v w
+
+abbrev pub Operands : List Row → Written → Written → (terms.Written → terms.Written → Type 0) → Type 0
+Operands rows a b P = (v w : terms.Written) → MeansWritten rows a v → MeansWritten rows b w → P v w
+
+-- ---- nodes of two operands
+
+-- the form of an operator on two operands, or the rule that is broken
+abbrev pub form_of : Op → terms.Written → terms.Written → Ruled BinaryForm
+form_of op a b = binary_form op (terms.operand_of a.value) (terms.operand_of b.value)
+
+-- both converted to one type
+abbrev pub integers_value : ℕ → CType → Op → ℕ → Ty → terms.Written → terms.Written → Value
+integers_value line t op at ty a b = value line t (arithmetic op at (terms.converted ty a) (terms.converted ty b))
+
+-- the left one converted, the right one promoted
+abbrev pub shift_value : ℕ → CType → Op → ℕ → Ty → terms.Written → terms.Written → Value
+shift_value line t op at ty a b = value line t (arithmetic op at (terms.converted ty a) (terms.promoted_value b))

@@ -5,7 +5,7 @@ ghost use Rattle.c_types.specs.Table.{Stands};
 ghost use Rattle.c_types.specs.declared.type_ref.Row.{Row};
 ghost use Rattle.c_typed.specs.Typed as tree;
 ghost use Rattle.typing_rules.specs.Terms as terms;
-ghost use Rattle.c_typing.specs.Stand.{MeansTyped, MeansWritten};
+ghost use Rattle.c_typing.specs.Stand.{TypedTwo, Makes, MeansTyped, MeansWritten};
 
 use crate::constants;
 use crate::make::make;
@@ -27,10 +27,16 @@ pub(crate) fn arithmetic(
     b: Typed,
 ) -> Result<Typed, AllocError>
     requires { IsPromoted computes }
-    ensures { (rows : List Row) (t : CType) (v w : tree.Value) → Stands rows ty t → MeansTyped rows a v → MeansTyped rows b w → ty_of (tree.type_of v) ≡ computes → IfOk result (λ r. MeansTyped rows r (tree.value line t (tree.arithmetic op at v w))) }
+    ensures { (rows : List Row) → TypedTwo rows ty a b (λ t v w. ty_of (tree.type_of v) ≡ computes → Makes rows result (tree.value line t (tree.arithmetic op at v w))) }
 {
     let constant = constants::computed(op, computes, a.constant, b.constant);
-    make(alloc, line, ty, ValueNode::Arithmetic(op, at, a.value, b.value), constant)
+    make(
+        alloc,
+        line,
+        ty,
+        ValueNode::Arithmetic(op, at, a.value, b.value),
+        constant,
+    )
 }
 
 /// A pointer and an integer, added or subtracted, of which the pointer stands first or second (C11 6.5.6p8).
@@ -44,7 +50,7 @@ pub(crate) fn sum(
     a: Typed,
     b: Typed,
 ) -> Result<Typed, AllocError>
-    ensures { (rows : List Row) (t : CType) (v w : tree.Value) → Stands rows ty t → MeansTyped rows a v → MeansTyped rows b w → IfOk result (λ r. MeansTyped rows r (tree.value line t (tree.sum at is_less pointer_first v w))) }
+    ensures { (rows : List Row) → TypedTwo rows ty a b (λ t v w. Makes rows result (tree.value line t (tree.sum at is_less pointer_first v w))) }
 {
     let node = ValueNode::Sum(at, is_less, pointer_first, a.value, b.value);
     make(alloc, line, ty, node, Constant::NoForm)
@@ -59,9 +65,15 @@ pub(crate) fn difference(
     a: Typed,
     b: Typed,
 ) -> Result<Typed, AllocError>
-    ensures { (rows : List Row) (t : CType) (v w : tree.Value) → Stands rows ty t → MeansTyped rows a v → MeansTyped rows b w → IfOk result (λ r. MeansTyped rows r (tree.value line t (tree.difference at v w))) }
+    ensures { (rows : List Row) → TypedTwo rows ty a b (λ t v w. Makes rows result (tree.value line t (tree.difference at v w))) }
 {
-    make(alloc, line, ty, ValueNode::Difference(at, a.value, b.value), Constant::NoForm)
+    make(
+        alloc,
+        line,
+        ty,
+        ValueNode::Difference(at, a.value, b.value),
+        Constant::NoForm,
+    )
 }
 
 /// Two pointers compared (C11 6.5.8, 6.5.9).
@@ -74,7 +86,13 @@ pub(crate) fn comparison(
     a: Typed,
     b: Typed,
 ) -> Result<Typed, AllocError>
-    ensures { (rows : List Row) (t : CType) (v w : tree.Value) → Stands rows ty t → MeansTyped rows a v → MeansTyped rows b w → IfOk result (λ r. MeansTyped rows r (tree.value line t (tree.comparison op at v w))) }
+    ensures { (rows : List Row) → TypedTwo rows ty a b (λ t v w. Makes rows result (tree.value line t (tree.comparison op at v w))) }
 {
-    make(alloc, line, ty, ValueNode::Comparison(op, at, a.value, b.value), Constant::NoForm)
+    make(
+        alloc,
+        line,
+        ty,
+        ValueNode::Comparison(op, at, a.value, b.value),
+        Constant::NoForm,
+    )
 }

@@ -1,12 +1,12 @@
-ghost use Rattle.std.specs.Prelude.{List, IfOk, true, false};
+ghost use Rattle.std.specs.Prelude.{◌≡◌, List, IfOk, true, false};
 ghost use Rattle.srmt_base.specs.Types.{IsPromoted};
 ghost use Rattle.c_types.specs.Types.{CType};
-ghost use Rattle.c_types.specs.Rules.{binary_type, computed_type as type_computed};
+ghost use Rattle.c_types.specs.Rules.{binary_type, IsPromotedForm, computed_type as type_computed};
 ghost use Rattle.c_types.specs.Table.{Stands};
 ghost use Rattle.c_types.specs.declared.type_ref.Row.{Row};
 ghost use Rattle.c_typed.specs.Typed as tree;
 ghost use Rattle.typing_rules.specs.Terms as terms;
-ghost use Rattle.c_typing.specs.Stand.{MeansTyped, MeansWritten};
+ghost use Rattle.c_typing.specs.Stand.{integers_value, shift_value, TypedTwo, WrittenTwo, TypedAndWritten, WrittenAndTyped, Operands, Makes, MeansTyped, MeansWritten};
 
 use crate::arithmetic::{arithmetic, comparison, difference, sum};
 use crate::assign::{null_of, promoted_value};
@@ -55,7 +55,7 @@ fn integers(
     b: Written,
 ) -> Result<Typed, AllocError>
     requires { IsPromoted computes }
-    ensures { (t : CType) (v w : terms.Written) → Stands types.now ty t → MeansWritten types.now a v → MeansWritten types.now b w → IfOk result (λ r. MeansTyped types.now r (tree.value line t (tree.arithmetic op at (terms.converted computes v) (terms.converted computes w)))) }
+    ensures { WrittenTwo types.now ty a b (λ t v w. Makes types.now result (integers_value line t op at computes v w)) }
 {
     let a = converted(alloc, types, computes, a)?;
     let b = converted(alloc, types, computes, b)?;
@@ -75,7 +75,7 @@ fn shift(
     b: Written,
 ) -> Result<Typed, AllocError>
     requires { IsPromoted computes }
-    ensures { (t : CType) (v w : terms.Written) → Stands types.now ty t → MeansWritten types.now a v → MeansWritten types.now b w → IfOk result (λ r. MeansTyped types.now r (tree.value line t (tree.arithmetic op at (terms.converted computes v) (terms.promoted_value w)))) }
+    ensures { WrittenTwo types.now ty a b (λ t v w. Makes types.now result (shift_value line t op at computes v w)) }
 {
     let a = converted(alloc, types, computes, a)?;
     let b = promoted_value(alloc, types, b)?;
@@ -93,7 +93,7 @@ fn pointer_and_integer(
     a: Typed,
     b: Written,
 ) -> Result<Typed, AllocError>
-    ensures { (t : CType) (v : tree.Value) (w : terms.Written) → Stands types.now ty t → MeansTyped types.now a v → MeansWritten types.now b w → IfOk result (λ r. MeansTyped types.now r (tree.value line t (tree.sum at is_less true v (terms.promoted_value w)))) }
+    ensures { TypedAndWritten types.now ty a b (λ t v w. Makes types.now result (tree.value line t (tree.sum at is_less true v (terms.promoted_value w)))) }
 {
     let b = promoted_value(alloc, types, b)?;
     sum(alloc, line, ty, at, is_less, true, a, b)
@@ -109,7 +109,7 @@ fn integer_and_pointer(
     a: Written,
     b: Typed,
 ) -> Result<Typed, AllocError>
-    ensures { (t : CType) (v : terms.Written) (w : tree.Value) → Stands types.now ty t → MeansWritten types.now a v → MeansTyped types.now b w → IfOk result (λ r. MeansTyped types.now r (tree.value line t (tree.sum at false false (terms.promoted_value v) w))) }
+    ensures { WrittenAndTyped types.now ty a b (λ t v w. Makes types.now result (tree.value line t (tree.sum at false false (terms.promoted_value v) w))) }
 {
     let a = promoted_value(alloc, types, a)?;
     sum(alloc, line, ty, at, false, false, a, b)
@@ -125,7 +125,7 @@ fn pointers(
     a: Typed,
     b: Typed,
 ) -> Result<Typed, AllocError>
-    ensures { (rows : List Row) (t : CType) (v w : tree.Value) → Stands rows ty t → MeansTyped rows a v → MeansTyped rows b w → IfOk result (λ r. MeansTyped rows r (tree.value line t (terms.pointers_node op at v w))) }
+    ensures { (rows : List Row) → TypedTwo rows ty a b (λ t v w. Makes rows result (tree.value line t (terms.pointers_node op at v w))) }
 {
     if op.is_comparison() {
         comparison(alloc, line, ty, op, at, a, b)
@@ -145,7 +145,7 @@ fn pointer_and_null(
     a: Typed,
     b: Typed,
 ) -> Result<Typed, AllocError>
-    ensures { (t : CType) (v w : tree.Value) → Stands types.now ty t → MeansTyped types.now a v → MeansTyped types.now b w → IfOk result (λ r. MeansTyped types.now r (tree.value line t (terms.pointers_node op at v (terms.null_of (tree.type_of v) w)))) }
+    ensures { TypedTwo types.now ty a b (λ t v w. Makes types.now result (tree.value line t (terms.pointers_node op at v (terms.null_of (tree.type_of v) w)))) }
 {
     let b = null_of(alloc, types, a.value.get().ty, b)?;
     pointers(alloc, line, ty, op, at, a, b)
@@ -162,8 +162,54 @@ fn null_and_pointer(
     a: Typed,
     b: Typed,
 ) -> Result<Typed, AllocError>
-    ensures { (t : CType) (v w : tree.Value) → Stands types.now ty t → MeansTyped types.now a v → MeansTyped types.now b w → IfOk result (λ r. MeansTyped types.now r (tree.value line t (terms.pointers_node op at (terms.null_of (tree.type_of w) v) w))) }
+    ensures { TypedTwo types.now ty a b (λ t v w. Makes types.now result (tree.value line t (terms.pointers_node op at (terms.null_of (tree.type_of w) v) w))) }
 {
     let a = null_of(alloc, types, b.value.get().ty, a)?;
     pointers(alloc, line, ty, op, at, a, b)
+}
+
+/// Whether an operator is `-`.
+fn is_difference(op: Op) -> bool
+    ensures { result ≡ terms.is_difference op }
+{
+    match op {
+        Op::Sub => true,
+        Op::Add | Op::Mul | Op::Div | Op::Rem | Op::Shl | Op::Shr => false,
+        Op::And | Op::Or | Op::Xor => false,
+        Op::Lt | Op::Gt | Op::Le | Op::Ge | Op::Eq | Op::Ne => false,
+    }
+}
+
+/// What an operator computes in a form, with its line.
+pub fn binary_value(
+    alloc: Global,
+    types: &Types,
+    line: u32,
+    op: Op,
+    at: u32,
+    form: BinaryForm,
+    a: Written,
+    b: Written,
+) -> Result<Typed, AllocError>
+    requires { IsPromotedForm form }
+    ensures { Operands types.now a b (λ v w. Makes types.now result (terms.binary_value line op at form v w)) }
+{
+    let ty = result_type(op, form, a.typed.value.get().ty, b.typed.value.get().ty);
+    match form {
+        BinaryForm::Integers(computes) => integers(alloc, types, line, ty, op, at, computes, a, b),
+        BinaryForm::Shift(computes) => shift(alloc, types, line, ty, op, at, computes, a, b),
+        BinaryForm::PointerAndInteger => {
+            pointer_and_integer(alloc, types, line, ty, at, is_difference(op), a.typed, b)
+        }
+        BinaryForm::IntegerAndPointer => {
+            integer_and_pointer(alloc, types, line, ty, at, a, b.typed)
+        }
+        BinaryForm::Pointers => pointers(alloc, line, ty, op, at, a.typed, b.typed),
+        BinaryForm::PointerAndNull => {
+            pointer_and_null(alloc, types, line, ty, op, at, a.typed, b.typed)
+        }
+        BinaryForm::NullAndPointer => {
+            null_and_pointer(alloc, types, line, ty, op, at, a.typed, b.typed)
+        }
+    }
 }

@@ -101,13 +101,7 @@ pub(crate) fn chosen(test: Constant, first: Constant, second: Constant) -> Const
         (_, _, Constant::NoForm) => Constant::NoForm,
         (Constant::NoForm, _, _) => Constant::NoForm,
         (Constant::Traps, _, _) => Constant::Traps,
-        (Constant::Value(n), _, _) => {
-            if n == 0 {
-                second
-            } else {
-                first
-            }
-        }
+        (Constant::Value(n), _, _) => { if n == 0 { second } else { first } }
     }
 }
 

@@ -2,7 +2,7 @@ ghost use Rattle.std.specs.Prelude.{◌≡◌, List, IfOk};
 ghost use Rattle.c_types.specs.Types.{ty_of};
 ghost use Rattle.c_types.specs.declared.type_ref.Row.{Row};
 ghost use Rattle.typing_rules.specs.Terms as terms;
-ghost use Rattle.c_typing.specs.Stand.{MeansTyped, MeansWritten, converted_value};
+ghost use Rattle.c_typing.specs.Stand.{Makes, MeansTyped, MeansWritten, converted_value};
 
 use crate::constants;
 use crate::typed::{Typed, Written};
@@ -13,8 +13,13 @@ use srmt_base::Ty;
 use std::alloc::{AllocError, Global};
 
 /// An operand as an integer of a type (C11 6.3.1).
-pub fn converted(alloc: Global, types: &Types, to: Ty, operand: Written) -> Result<Typed, AllocError>
-    ensures { (t : terms.Written) → MeansWritten types.now operand t → IfOk result (λ r. MeansTyped types.now r (terms.converted to t)) }
+pub fn converted(
+    alloc: Global,
+    types: &Types,
+    to: Ty,
+    operand: Written,
+) -> Result<Typed, AllocError>
+    ensures { (t : terms.Written) → MeansWritten types.now operand t → Makes types.now result (terms.converted to t) }
 {
     let from = types.ty(operand.typed.value.get().ty);
     if from.code() == to.code() {
@@ -26,7 +31,7 @@ pub fn converted(alloc: Global, types: &Types, to: Ty, operand: Written) -> Resu
 
 /// A conversion of an operand from one integer type to another.
 fn conversion(alloc: Global, from: Ty, to: Ty, operand: Written) -> Result<Typed, AllocError>
-    ensures { (rows : List Row) (t : terms.Written) → MeansWritten rows operand t → from ≡ ty_of (terms.written_type t) → IfOk result (λ r. MeansTyped rows r (converted_value to t)) }
+    ensures { (rows : List Row) (t : terms.Written) → MeansWritten rows operand t → from ≡ ty_of (terms.written_type t) → Makes rows result (converted_value to t) }
 {
     let constant = constants::converted(from, to, operand.typed.constant);
     let value = Boxed::new(

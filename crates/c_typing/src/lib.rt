@@ -7,9 +7,11 @@ mod binary;
 mod constants;
 mod convert;
 mod make;
+mod operator;
 mod typed;
 
 pub use assign::{converted_by, null_of, promoted_value, repointed};
-pub use binary::result_type;
+pub use binary::{binary_value, result_type};
 pub use convert::converted;
+pub use operator::computed;
 pub use typed::{Typed, Written};

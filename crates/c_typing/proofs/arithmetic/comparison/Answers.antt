@@ -1,4 +1,4 @@
-use Rattle.std.proofs.Common.{◌≡◌, refl, ap, sym, ◌∙◌}
+use Rattle.std.proofs.Common.{refl, ◌∙◌}
 use Rattle.std.proofs.lemmas.Result.{IfOk-weaker}
 use Rattle.c_types.specs.Table.{type_at}
 use Rattle.c_typed.specs.Typed as tree
@@ -11,7 +11,7 @@ use Rattle.c_typing.proofs.arithmetic.comparison.Goals as goal
 pub returns : goal.returns
 returns c rows t v w stands a b =
     IfOk-weaker c.make.result _ _
-      (λ r made. made-means rows r c.args.line c.args.ty (vn.Comparison c.args.op c.args.at c.args.a.value c.args.b.value) NoForm made t stands c.args.line refl (tree.comparison c.args.op c.args.at v w)
-        (λ later more. view_comparison (type_at later) c.args.op c.args.at c.args.a.value c.args.b.value ∙ (λ i. tree.comparison c.args.op c.args.at (a.value.always later more i) (b.value.always later more i)))
-        (no-constant-comparison c.args.op c.args.line c.args.at t v w))
-      c.make.ensures
+    (λ r made. made-means rows r c.args.line c.args.ty (vn.Comparison c.args.op c.args.at c.args.a.value c.args.b.value) NoForm made t stands c.args.line refl (tree.comparison c.args.op c.args.at v w)
+    (λ later more. view_comparison (type_at later) c.args.op c.args.at c.args.a.value c.args.b.value ∙ (λ i. tree.comparison c.args.op c.args.at (a.value.always later more i) (b.value.always later more i)))
+    (no-constant-comparison c.args.op c.args.line c.args.at t v w))
+    c.make.ensures

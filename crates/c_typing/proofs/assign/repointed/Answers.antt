@@ -21,4 +21,4 @@ returns-else-is_one c t v stands m =
     let test : same_type (type_at rows c.get.result.now.ty) (type_at rows c.args.to) ≡ same_type (type_of v) t = λ i. same_type ((ap (λ x. type_at rows x.ty) c.get.ensures ∙ type-of-means rows c.args.operand.value v m.value) i) (stands.always rows (Extends-refl rows) i) in
     let other : same_type (type_of v) t ≡ false = sym test ∙ sym c.is_one.ensures ∙ c.if-is_one.false in
     subst (λ u. IfOk c.requalified.result (λ r. MeansTyped rows r u)) (sym (ap (λ b. if b then v else value (start_of v) t (requalified v)) other))
-      (c.requalified.ensures t v stands m)
+    (c.requalified.ensures t v stands m)

@@ -1,4 +1,4 @@
-use Rattle.std.proofs.Common.{sym, ap, subst}
+use Rattle.std.proofs.Common.{sym, subst}
 use Rattle.c_types.specs.Table.{Stands}
 use Rattle.c_typed.specs.Typed as tree
 use Rattle.typing_rules.specs.Terms as terms

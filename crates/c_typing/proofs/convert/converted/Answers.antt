@@ -1,4 +1,4 @@
-use Rattle.std.proofs.Common.{◌≡◌, ◌==◌, if◌then◌else◌, ap, sym, ◌∙◌, subst}
+use Rattle.std.proofs.Common.{if◌then◌else◌, ap, sym, ◌∙◌, subst}
 use Rattle.std.proofs.lemmas.Bool.{eq-eqb}
 use Rattle.std.specs.Result.{IfOk}
 use Rattle.srmt_base.specs.Types.{ty_code}
@@ -20,4 +20,4 @@ returns-else-code c t m =
     let from = c.ty-from.ensures ∙ ap (λ x. ty_of (type_at c.args.types.now x.ty)) c.get.ensures ∙ ap ty_of (type-of-means c.args.types.now c.args.operand.typed.value t.value m.typed.value) in
     let other = test-false (ty_code (ty_of (terms.written_type t))) (ty_code c.args.to) (λ e. c.if-code.false (c.code.ensures ∙ ap ty_code from ∙ e ∙ sym c.code-2.ensures)) in
     subst (λ u. IfOk c.conversion.result (λ r. MeansTyped c.args.types.now r u)) (sym (ap (λ b. if b then t.value else converted_value c.args.to t) other))
-      (c.conversion.ensures c.args.types.now t m from)
+    (c.conversion.ensures c.args.types.now t m from)
