@@ -1,0 +1,2 @@
+pub mod MovedPlaces
+pub mod MoreLines
