@@ -5,11 +5,10 @@ use Rattle.mid_code.specs.declared.class.Class.{Class}
 use Rattle.mid_code.specs.declared.class.Shared.{Shared}
 use Rattle.mid_code.specs.declared.program.MidLine.{MidLine}
 use Rattle.mid_code.specs.declared.program.MidFunction.{MidFunction}
-use Rattle.mid_code.specs.Valid.{IsValid}
 use Rattle.mid_code.specs.Classes.{Sharing, sharings, sharings_of, all_sharings, sites_of, site_count, classes_from, all_classes_from, classes_of, SharedProgram, protected_functions}
 use Rattle.mid_code.specs.Pairs.{HasSites}
 use Rattle.mid_code.proofs.ValidInWords.{well_formed}
-use Rattle.version_code.specs.Rows.{HasClasses, HaveClasses}
+use Rattle.version_code.specs.Rows.{HaveClasses}
 
 length-sharings : (mains : ℕ) (s : Shared) (from : ℕ) (code : List MidLine) → length (sharings mains s from code) ≡ length code
 length-sharings mains s from [] = refl

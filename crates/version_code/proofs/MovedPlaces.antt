@@ -1,12 +1,11 @@
 -- A row of places moves each place of the code to where its group begins.
-use Rattle.std.proofs.Common.{◌≡◌, ℕ, zero, suc, ◌+◌, ◌-◌, ◌<◌, ◌≤◌, List, [], ◌∷◌, ◌++◌, length, refl, sym, ap, ◌∙◌, arith, inl, inr, get_or}
-use Rattle.std.specs.Prelude.{slice_get, slice_index, nat_lt, if◌then◌else◌, Some}
+use Rattle.std.proofs.Common.{◌≡◌, ℕ, zero, suc, ◌+◌, ◌-◌, ◌<◌, ◌≤◌, List, [], ◌∷◌, length, refl, sym, ap, ◌∙◌, arith, inl, inr}
+use Rattle.std.specs.Prelude.{slice_index, if◌then◌else◌}
 use Rattle.std.proofs.Math.Path.{fun_ext}
 use Rattle.std.proofs.lemmas.Bool.{cases_lt, lt-ltb, le-ltb}
 use Rattle.mid_code.specs.declared.class.Class.{Class}
 use Rattle.mid_code.specs.declared.program.MidLine.{MidLine}
 use Rattle.mid_code.specs.Versions.{Table, place_in, size_of}
-use Rattle.mid_code.proofs.VersionGroups.{place_in-next}
 use Rattle.version_code.specs.Places.{ArePlaces, moved_by}
 
 -- all places past the last are at the end of the version
