@@ -1,5 +1,6 @@
 ghost use Rattle.std.specs.Prelude.{◌≡◌, ◌+◌, ◌≤◌, ◌++◌, ◌∷◌, [], Some, map, length};
 ghost use Rattle.mid_code.specs.Versions.{leading, leading_exchange, leading_exchange_size, leading_size, group_of, asked};
+ghost use Rattle.mid_code.specs.declared.version.VersionOp.TheVariants.{SharedLoad, SharedStore, SharedOpen};
 ghost use Rattle.version_code.specs.Lines.{gained};
 ghost use Rattle.version_code.specs.Places.{moved_by};
 
@@ -90,69 +91,31 @@ fn add_exchange(lines: &mut Lines, behind: u32, site: Site, line: &MidLine)
         | Mid::JumpN { .. }
         | Mid::Turn
         | Mid::Return { .. } => lines.add(at, &[VersionOp::Copied(line.mid)]),
-        Mid::Load { target, pointer } => lines.add(
-            at,
-            &[VersionOp::SharedLoad {
-                site,
-                target,
-                pointer,
-            }],
-        ),
-        Mid::Store { pointer, source } => lines.add(
-            at,
-            &[VersionOp::SharedStore {
-                site,
-                pointer,
-                source,
-            }],
-        ),
-        Mid::Open { target, cells } => lines.add(
-            at,
-            &[VersionOp::SharedOpen {
-                site,
-                target,
-                cells,
-            }],
-        ),
+        Mid::Load { target, pointer } => lines.add(at, &[load(site, target, pointer)]),
+        Mid::Store { pointer, source } => lines.add(at, &[store(site, pointer, source)]),
+        Mid::Open { target, cells } => lines.add(at, &[open(site, target, cells)]),
         Mid::Close { .. } => lines.add(at, &[VersionOp::SharedClose { site }]),
         Mid::VLoad { target, pointer } => {
+            let operands = Operands::One(pointer);
             lines.add(
                 at,
-                &asked(
-                    site,
-                    RequestKind::VLoad,
-                    Some(target),
-                    None,
-                    Operands::One(pointer),
-                ),
+                &asked(site, RequestKind::VLoad, Some(target), None, operands),
             );
         }
         Mid::VStore { pointer, source } => {
-            lines.add(
-                at,
-                &asked(
-                    site,
-                    RequestKind::VStore,
-                    None,
-                    None,
-                    Operands::Two(pointer, source),
-                ),
-            );
+            let operands = Operands::Two(pointer, source);
+            lines.add(at, &asked(site, RequestKind::VStore, None, None, operands));
         }
         Mid::Call {
             target,
             function,
             args,
         } => {
+            let operands = Operands::Passed(args);
+            let function = Some(function);
             lines.add(
                 at,
-                &asked(
-                    site,
-                    RequestKind::Call,
-                    Some(target),
-                    Some(function),
-                    Operands::Passed(args),
-                ),
+                &asked(site, RequestKind::Call, Some(target), function, operands),
             );
         }
         Mid::CallPtr {
@@ -173,29 +136,50 @@ fn add_exchange(lines: &mut Lines, behind: u32, site: Site, line: &MidLine)
             lines.add(at, &[enter, ask, wait, act]);
         }
         Mid::Put { source } => {
-            lines.add(
-                at,
-                &asked(site, RequestKind::Put, None, None, Operands::One(source)),
-            );
+            let operands = Operands::One(source);
+            lines.add(at, &asked(site, RequestKind::Put, None, None, operands));
         }
         Mid::Get { target } => {
+            let operands = Operands::Nothing;
             lines.add(
                 at,
-                &asked(
-                    site,
-                    RequestKind::Get,
-                    Some(target),
-                    None,
-                    Operands::Nothing,
-                ),
+                &asked(site, RequestKind::Get, Some(target), None, operands),
             );
         }
         Mid::Exit { source } => {
-            lines.add(
-                at,
-                &asked(site, RequestKind::Exit, None, None, Operands::One(source)),
-            );
+            let operands = Operands::One(source);
+            lines.add(at, &asked(site, RequestKind::Exit, None, None, operands));
         }
+    }
+}
+
+fn load(site: Site, target: u16, pointer: u16) -> VersionOp
+    ensures { result ≡ SharedLoad site target pointer }
+{
+    VersionOp::SharedLoad {
+        site,
+        target,
+        pointer,
+    }
+}
+
+fn store(site: Site, pointer: u16, source: u16) -> VersionOp
+    ensures { result ≡ SharedStore site pointer source }
+{
+    VersionOp::SharedStore {
+        site,
+        pointer,
+        source,
+    }
+}
+
+fn open(site: Site, target: u16, cells: u16) -> VersionOp
+    ensures { result ≡ SharedOpen site target cells }
+{
+    VersionOp::SharedOpen {
+        site,
+        target,
+        cells,
     }
 }
 
