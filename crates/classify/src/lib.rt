@@ -8,6 +8,8 @@
 mod classes;
 mod instruction;
 mod refusal;
+#[cfg(test)]
+mod tests;
 
 pub use classes::classify;
 pub use refusal::ClassRefusal;

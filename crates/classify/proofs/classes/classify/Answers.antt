@@ -1,4 +1,4 @@
-use Rattle.std.proofs.Common.{◌≡◌, ◌≤◌, sym, ◌∙◌, subst}
+use Rattle.std.proofs.Common.{◌≤◌, sym, ◌∙◌, subst}
 use Rattle.std.proofs.lemmas.Bool.{ltb-false}
 use Rattle.mid_code.specs.Classes.{shared_program, all_sites}
 use Rattle.classify.proofs.SitesThere.{functions_there, has_rows, has_sites}
