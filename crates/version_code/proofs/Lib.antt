@@ -1,0 +1,4 @@
+pub mod MovedPlaces
+pub mod MoreLines
+pub mod VersionRows
+pub mod ClassesThere
