@@ -1,5 +1,4 @@
-ghost use Rattle.std.specs.Prelude.{◌<◌, length};
-
+use self::calls::{CALLS, FORM, TOO_LONG, Want};
 use crate::still::srmtrun_still;
 use answers::{CompileRefusal, RunAnswer};
 use first_form::{Constant, read_first_form};
@@ -9,15 +8,8 @@ use srmt_outside::{MemFiles, MemOutlet, MemSink};
 use std::alloc::{AllocError, Global};
 use std::test::Fail;
 
+mod calls;
 mod schedules;
-
-const SINGLE: [&str; 2] = ["a.c", "--single"];
-
-const ALTERNATE: [&str; 2] = ["a.c", "--alternate"];
-
-const USAGE: &str = "srmtrun: usage: srmtrun PROGRAM [options]\n";
-
-const FORM: &str = "srmtrun: refused: form\n";
 
 // A call over a file `a.c`, and what is to come of it.
 #[derive(Debug, Drop)]
@@ -26,10 +18,9 @@ struct Case<'a> {
     source: &'a [u8],
     // The numbers of the calls that fail: of the files, of the outlet and of the notes, or 0.
     fails: [u64; 3],
-    answer: RunAnswer,
+    want: Want,
     status: u8,
-    // How many events there are, and the bytes among them.
-    events: usize,
+    // The bytes among the events. Where the program exits, one event more follows.
     bytes: &'a [u8],
     notes: &'a str,
 }
@@ -54,6 +45,43 @@ fn bytes_of(alloc: Global, events: &[Event]) -> Result<Vec<u8>, AllocError> {
     Ok(bytes)
 }
 
+// An answer of both sides.
+fn ran(verdict: Verdict, counts: [u64; 4]) -> RunAnswer {
+    let [lead_steps, trail_steps, words, acks] = counts;
+    RunAnswer::Ran(Ran {
+        verdict,
+        lead_steps,
+        trail_steps,
+        words,
+        acks,
+        applied: false,
+    })
+}
+
+// The answer of a call with this status.
+fn answer_of(want: Want, status: u8) -> RunAnswer {
+    match want {
+        Want::Alone => RunAnswer::Alone(SourceEnd::Exit(status)),
+        Want::Both(counts) => ran(Verdict::Exit(status), counts),
+        Want::BothFailed(counts) => ran(Verdict::WriteFault, counts),
+        Want::Help => RunAnswer::Help,
+        Want::Version => RunAnswer::Version,
+        Want::Usage => RunAnswer::Usage,
+        Want::ReadFault => RunAnswer::ReadFault,
+        Want::TooLong => RunAnswer::TooLong,
+        Want::Form => RunAnswer::Refused(CompileRefusal::Form),
+        Want::WriteFault => RunAnswer::WriteFault,
+    }
+}
+
+// How many events there are beside the bytes.
+fn exits(want: Want) -> usize {
+    match want {
+        Want::Alone | Want::Both(_) => 1,
+        _ => 0,
+    }
+}
+
 // Whether the call comes to what it is to come to. All lines are noted where no call of the notes is
 // to fail.
 fn holds(alloc: Global, case: &Case<'_>) -> Result<bool, AllocError> {
@@ -68,223 +96,24 @@ fn holds(alloc: Global, case: &Case<'_>) -> Result<bool, AllocError> {
     let words = owned(alloc, case.words)?;
     let finished = srmtrun_still(alloc, &words, &mut files, &mut outlet, &mut notes);
     let bytes = bytes_of(alloc, outlet.events())?;
-    let ended = finished.answer == case.answer && finished.status == case.status;
-    let written = outlet.events().len() == case.events && bytes.as_slice() == case.bytes;
+    let ended = finished.answer == answer_of(case.want, case.status)
+        && finished.status == case.status;
+    let others = exits(case.want);
+    let events = outlet.events().len();
+    let written = bytes.as_slice() == case.bytes && events.checked_sub(others) == Some(bytes.len());
     let noted = finished.noted == (note == 0) && notes.bytes() == case.notes.as_bytes();
     Ok(ended && written && noted)
 }
 
 #[test]
-fn sources_run(rt: HostRuntime) -> Result<(), Fail> {
-    let rows: [(&[u8], &[u8], u8); 5] = [
-        (b"int main(void){return 0;}", b"", 0),
-        (b"int main(void) { putchar(321); return 300; }", b"A", 44),
-        (
-            b"int main(void){putchar(66);putchar(65);return 10;}",
-            b"BA",
-            10,
-        ),
-        (
-            b" int\tmain\r\n( void )\n{ putchar\n( 0 ) ;return\n2147483647\t; }\r",
-            b"\0",
-            255,
-        ),
-        (b"int main(void){putchar(2147483647);return 1;}", b"\xff", 1),
-    ];
-    for (source, bytes, status) in rows {
-        let case = Case {
-            words: &SINGLE,
-            source,
-            fails: [0, 0, 0],
-            answer: RunAnswer::Alone(SourceEnd::Exit(status)),
-            status,
-            events: bytes.len() + 1,
-            bytes,
-            notes: "",
-        };
-        assert!(rt; holds(rt.alloc(), &case)?, "{case:?}");
-    }
-    Ok(())
-}
-
-#[test]
-fn other_sources_are_refused(rt: HostRuntime) -> Result<(), Fail> {
-    let rows: [&[u8]; 16] = [
-        b"",
-        b"int",
-        b"intmain(void){return 0;}",
-        b"int\x0bmain(void){return 0;}",
-        b"int main(){return 0;}",
-        b"int main(void){}",
-        b"int main(void){return;}",
-        b"int main(void){return0;}",
-        b"int main(void){return 0}",
-        b"int main(void){return 0;};",
-        b"int main(void){return 00;}",
-        b"int main(void){return 2147483648;}",
-        b"int main(void){return 99999999999;}",
-        b"int main(void){putchar(065);return 0;}",
-        b"int main(void){putchar(-1);return 0;}",
-        b"int main(void){return 0;putchar(65);}",
-    ];
-    for source in rows {
-        let case = Case {
-            words: &SINGLE,
-            source,
-            fails: [0, 0, 0],
-            answer: RunAnswer::Refused(CompileRefusal::Form),
-            status: 127,
-            events: 0,
-            bytes: b"",
-            notes: FORM,
-        };
-        assert!(rt; holds(rt.alloc(), &case)?, "{case:?}");
-    }
-    Ok(())
-}
-
-// The answer of a run of both sides: the verdict, the steps of the leading and of the trailing side,
-// the words and the acknowledgements.
-fn ran(verdict: Verdict, counts: [u64; 4]) -> RunAnswer {
-    let [lead_steps, trail_steps, words, acks] = counts;
-    RunAnswer::Ran(Ran {
-        verdict,
-        lead_steps,
-        trail_steps,
-        words,
-        acks,
-        applied: false,
-    })
-}
-
-// The counts are those of the two versions, taken by hand.
-#[test]
-fn both_sides_run(rt: HostRuntime) -> Result<(), Fail> {
-    let none = b"int main(void){return 0;}";
-    let one = b"int main(void) {\nputchar(65);\nreturn 0;\n}";
-    let two = b"int main(void) {\nputchar(65);\nputchar(66);\nreturn 0;\n}";
-    // The source, its bytes, and the counts.
-    let rows: [(&[u8], &[u8], [u64; 4]); 3] = [
-        (none, b"", [4, 4, 1, 1]),
-        (one, b"A", [9, 8, 2, 2]),
-        (two, b"AB", [14, 12, 3, 3]),
-    ];
-    for (source, bytes, counts) in rows {
-        let case = Case {
-            words: &ALTERNATE,
-            source,
-            fails: [0, 0, 0],
-            answer: ran(Verdict::Exit(0), counts),
-            status: 0,
-            events: bytes.len() + 1,
-            bytes,
-            notes: "",
-        };
-        assert!(rt; holds(rt.alloc(), &case)?, "{case:?}");
-    }
-    let failed = Case {
-        words: &ALTERNATE,
-        source: two,
-        fails: [0, 2, 0],
-        answer: ran(Verdict::WriteFault, [9, 10, 2, 2]),
-        status: 124,
-        events: 1,
-        bytes: b"A",
-        notes: "srmtrun: fault: output\n",
-    };
-    assert!(rt; holds(rt.alloc(), &failed)?);
-    Ok(())
-}
-
-// Each list of words, and what it is answered with.
-#[test]
-fn words_are_answered(rt: HostRuntime) -> Result<(), Fail> {
-    let about = "srmtrun of Gazqelum\nproved with rattle-kit-13f logic dac8208d650f15bf\n";
-    let one = RunAnswer::Alone(SourceEnd::Exit(7));
-    let both = ran(Verdict::Exit(7), [4, 4, 1, 1]);
-    let usage = RunAnswer::Usage;
-    let rows: [(&[&str], RunAnswer, u8, usize, &str); 18] = [
-        (&["a.c", "--single"], one, 7, 1, ""),
-        (&["--single", "a.c"], one, 7, 1, ""),
-        (&["a.c", "--alternate"], both, 7, 1, ""),
-        (&["--alternate", "a.c"], both, 7, 1, ""),
-        (&["--version"], RunAnswer::Version, 0, 0, about),
-        (&["--alternate", "--single"], usage, 126, 0, USAGE),
-        (&[], usage, 126, 0, USAGE),
-        (&["a.c"], usage, 126, 0, USAGE),
-        (&["a.c", "--double"], usage, 126, 0, USAGE),
-        (&["--single", "--single"], usage, 126, 0, USAGE),
-        (&["a.srm", "--single"], usage, 126, 0, USAGE),
-        (&["a.c", "--single", "--single"], usage, 126, 0, USAGE),
-        (&["a.c", "--single", "--check"], usage, 126, 0, USAGE),
-        (&["--help", "--help"], usage, 126, 0, USAGE),
-        (&["--help", "a.c"], usage, 126, 0, USAGE),
-        (&["a.c", "--help"], usage, 126, 0, USAGE),
-        (&["--version", "--single"], usage, 126, 0, USAGE),
-        (&["-h"], usage, 126, 0, USAGE),
-    ];
-    for (words, answer, status, events, notes) in rows {
-        let case = Case {
-            words,
-            source: b"int main(void){return 7;}",
-            fails: [0, 0, 0],
-            answer,
-            status,
-            events,
-            bytes: b"",
-            notes,
-        };
-        assert!(rt; holds(rt.alloc(), &case)?, "{case:?}");
-    }
-    Ok(())
-}
-
-// A call that fails: of the files, of the outlet, or of the notes. Where a note fails the answer
-// stands, and a first part of its lines is written.
-#[test]
-fn faults_are_answered(rt: HostRuntime) -> Result<(), Fail> {
-    let reading = RunAnswer::ReadFault;
-    let usage = RunAnswer::Usage;
-    let form = RunAnswer::Refused(CompileRefusal::Form);
-    let read = "srmtrun: fault: reading\n";
-    let one: &[u8] = b"int main(void){putchar(65);return 0;}";
-    let output = "srmtrun: fault: output\n";
-    let rows: [(&[&str], &[u8], [u64; 3], RunAnswer, &[u8], &str); 12] = [
-        (&SINGLE, one, [1, 0, 0], reading, b"", read),
-        (&["b.c", "--single"], one, [0, 0, 0], reading, b"", read),
-        (&SINGLE, one, [0, 1, 0], RunAnswer::WriteFault, b"", output),
-        (&SINGLE, one, [0, 2, 0], RunAnswer::WriteFault, b"A", output),
-        (&SINGLE, one, [1, 0, 1], reading, b"", ""),
-        (
-            &SINGLE,
-            one,
-            [1, 0, 2],
-            reading,
-            b"",
-            "srmtrun: fault: reading",
-        ),
-        (&SINGLE, b"", [0, 0, 1], form, b"", ""),
-        (&SINGLE, b"", [0, 0, 2], form, b"", "srmtrun: refused: "),
-        (&SINGLE, b"", [0, 0, 3], form, b"", "srmtrun: refused: form"),
-        (&[], b"", [0, 0, 1], usage, b"", ""),
-        (
-            &["--version"],
-            b"",
-            [0, 0, 3],
-            RunAnswer::Version,
-            b"",
-            "srmtrun of Gazqelum\n",
-        ),
-        (&["--help"], b"", [0, 0, 1], RunAnswer::Help, b"", ""),
-    ];
-    for (words, source, fails, answer, bytes, notes) in rows {
+fn calls_come_to_this(rt: HostRuntime) -> Result<(), Fail> {
+    for (words, source, fails, want, status, bytes, notes) in &CALLS {
         let case = Case {
             words,
             source,
-            fails,
-            answer,
-            status: 124,
-            events: bytes.len(),
+            fails: *fails,
+            want: *want,
+            status: *status,
             bytes,
             notes,
         };
@@ -304,16 +133,13 @@ fn sevens(alloc: Global, puts: u32) -> Result<Vec<u8>, AllocError> {
 }
 
 // Whether a source runs to its exit with 0, and writes these bytes.
-fn runs(alloc: Global, source: &[u8], bytes: &[u8]) -> Result<bool, AllocError>
-    requires { length bytes.now < 100000 }
-{
+fn runs(alloc: Global, source: &[u8], bytes: &[u8]) -> Result<bool, AllocError> {
     let case = Case {
-        words: &SINGLE,
+        words: &["a.c", "--single"],
         source,
         fails: [0, 0, 0],
-        answer: RunAnswer::Alone(SourceEnd::Exit(0)),
+        want: Want::Alone,
         status: 0,
-        events: bytes.len() + 1,
         bytes,
         notes: "",
     };
@@ -324,17 +150,16 @@ fn runs(alloc: Global, source: &[u8], bytes: &[u8]) -> Result<bool, AllocError>
 fn stops(
     alloc: Global,
     source: &[u8],
-    answer: RunAnswer,
+    want: Want,
     status: u8,
     notes: &str,
 ) -> Result<bool, AllocError> {
     let case = Case {
-        words: &SINGLE,
+        words: &["a.c", "--single"],
         source,
         fails: [0, 0, 0],
-        answer,
+        want,
         status,
-        events: 0,
         bytes: b"",
         notes,
     };
@@ -348,14 +173,12 @@ fn limits_are_exact(rt: HostRuntime) -> Result<(), Fail> {
     let most = sevens(alloc, 20_000)?;
     assert!(rt; runs(alloc, &most, &bytes)?);
     let more = sevens(alloc, 20_001)?;
-    let form = RunAnswer::Refused(CompileRefusal::Form);
-    assert!(rt; stops(alloc, &more, form, 127, FORM)?);
+    assert!(rt; stops(alloc, &more, Want::Form, 127, FORM)?);
     let mut longest = Vec::from_slice(alloc, b"int main(void){return 0;}")?;
     longest.resize(1_048_576, b'\n')?;
     assert!(rt; runs(alloc, &longest, b"")?);
     longest.push(b'\n')?;
-    let long = RunAnswer::TooLong;
-    assert!(rt; stops(alloc, &longest, long, 124, "srmtrun: fault: too long\n")?);
+    assert!(rt; stops(alloc, &longest, Want::TooLong, 124, TOO_LONG)?);
     Ok(())
 }
 
