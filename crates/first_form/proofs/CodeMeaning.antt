@@ -13,8 +13,9 @@ use Rattle.srmt_base.specs.declared.ty.Ty.TheVariants.{Int, UChar}
 use Rattle.srmt_base.specs.Convert.{convert_of}
 use Rattle.mid_code.specs.declared.program.MidLine.{MidLine}
 use Rattle.mid_code.specs.declared.program.MidProgram.{MidProgram}
-use Rattle.mid_code.specs.Machine.{does, act, act_at, spent}
-use Rattle.mid_code.specs.Start.{full_budget, started_memory}
+use Rattle.srmt_base.specs.Budgets.{full_budget, spent}
+use Rattle.mid_code.specs.Machine.{local_of, does, act, act_at}
+use Rattle.mid_code.specs.Start.{started_memory}
 use Rattle.mid_code.specs.Meaning.{State, On, Ends, step, step_by, preceded, then_run, exec, Finishes, Middle}
 use Rattle.first_form.specs.declared.source.PutConstant.{PutConstant}
 use Rattle.first_form.specs.declared.source.FirstForm.{FirstForm}
@@ -44,18 +45,17 @@ module _ (form : FirstForm) (input : List ℕ) (limits : Limits) where
     machine = record {
       top = record { function = 1; place = place; registers = value ∷ []; opened = []; into = 0 };
       below = [];
-      protected = spent (full_budget limits);
-      binary = full_budget limits;
+      budgets = record { protected = spent (full_budget limits); binary = full_budget limits };
     };
     memory = started_memory (program_of form) limits;
     input = input;
   }
 
-  step_at : (before rest : List MidLine) (n place value : ℕ) (l : MidLine) → code_of form ≡ before ++ rest → place ≡ length before + n → slice_get rest n ≡ Some l → step (program_of form) (main_at place value) ≡ step_by (program_of form) (act (program_of form) l.mid l.line (main_at place value).machine) (main_at place value)
+  step_at : (before rest : List MidLine) (n place value : ℕ) (l : MidLine) → code_of form ≡ before ++ rest → place ≡ length before + n → slice_get rest n ≡ Some l → step (program_of form) (main_at place value) ≡ step_by (program_of form) (act (program_of form) l.mid l.line (local_of (program_of form) (main_at place value).machine)) (main_at place value)
   unfolding does
   step_at before rest n place value l split e found =
       let here : slice_get (code_of form) place ≡ Some l = ap (λ (c : List MidLine). slice_get c place) split ∙ slice_get-append before rest n place l e found in
-      ap (λ o. step_by (program_of form) (act_at (program_of form) o (main_at place value).machine) (main_at place value)) here
+      ap (λ o. step_by (program_of form) (act_at (program_of form) o (local_of (program_of form) (main_at place value).machine)) (main_at place value)) here
 
   finishes_from : (puts : List PutConstant) (before : List MidLine) (place value : ℕ) → code_of form ≡ before ++ (flat_map put_code puts ++ tail_code form) → place ≡ length before → Finishes (program_of form) (main_at place value) (map (λ p. Byte (p.constant.value % 256)) puts ++ ExitEvent (form.status.value % 256) ∷ []) (end_of form)
   finishes_from [] before place value split e =

@@ -8,17 +8,21 @@ use Rattle.std.proofs.lemmas.List.Concat.{flat_map-cons}
 use Rattle.std.proofs.lemmas.List.Elements.{All-cons, All-from_recursion}
 use Rattle.std.proofs.lemmas.Option.{get_or_from_slice_get}
 use Rattle.srmt_base.specs.declared.ty.Ty.TheVariants.{Int, UChar}
-use Rattle.mid_code.specs.declared.program.RegisterKind.TheVariants.{Number}
 use Rattle.mid_code.specs.declared.program.MidFunction.{MidFunction}
 use Rattle.mid_code.specs.declared.program.MidLine.{MidLine}
 use Rattle.mid_code.specs.declared.mid.Mid.{Mid}
 use Rattle.mid_code.specs.declared.mid.Mid.TheVariants.{Const, Conv, Put, Exit}
-use Rattle.mid_code.specs.Operands.{operands}
-use Rattle.mid_code.specs.Flow.{goes_to, enters, leaves, entry, entered, found_at, same_places, has_others, closes_wrongly, enters_wrongly, breaks_order_by, breaks_order}
-use Rattle.mid_code.specs.Rules.{breaks_function, is_beyond, has_outside, names_nothing, has_other_kind, mixes_kinds, jumps_wrongly, is_final, runs_out, misfits, misfits_params, early_rule, instruction_rule, line_rule, function_rule, rule_broken}
+use Rattle.mid_code.specs.declared.field.Field.TheVariants.{Value}
+use Rattle.mid_code.specs.Fields.{fields}
+use Rattle.mid_code.specs.Ways.{is_final}
+use Rattle.mid_code.specs.Flow.{goes_to, is_target, open_behind, entry, entered_by, found_at, same_places, has_others, closes_wrongly, enters_wrongly, breaks_order_by, breaks_order}
+use Rattle.mid_code.specs.Rules.{breaks_function, broken, field_rule, lesser, fields_rule, runs_out, misfits, misfits_params, early_rule, instruction_rule, line_rule, function_rule, rule_broken}
 use Rattle.mid_code.specs.Valid.{IsValid}
-use Rattle.mid_code.specs.Classes.{site_count, all_sites, protected_functions}
+use Rattle.mid_code.specs.declared.class.Shared.{Shared}
+use Rattle.mid_code.specs.Classes.{sharings, site_count, all_sites, protected_functions}
+use Rattle.mid_code.specs.Closed.{all_of, everything_shared}
 use Rattle.mid_code.specs.Pairs.{IsOfFirstForm, HasSites}
+use Rattle.mid_code.proofs.AllShared.{everything_closed}
 use Rattle.mid_code.proofs.Values.{found_one}
 use Rattle.first_form.specs.declared.source.PutConstant.{PutConstant}
 use Rattle.first_form.specs.declared.source.FirstForm.{FirstForm}
@@ -33,67 +37,45 @@ first = Some 1
 pub record Leads (mid : Mid) : Type 0 where
   pub final : is_final mid ≡ false
   pub next : (place : ℕ) → goes_to place mid ≡ (place + 1) ∷ []
-  pub keeps : (place : ℕ) (found : List ℕ) → leaves place mid found ≡ found
+  pub keeps : (place : ℕ) (found : List ℕ) → open_behind place mid found ≡ found
   pub closes : (found : List ℕ) → closes_wrongly mid found ≡ false
 
 -- an instruction that keeps each rule that depends on it alone
 pub record IsOurs (form : FirstForm) (mid : Mid) : Type 0 where
-  pub bounded : is_beyond mid ≡ false
-  pub registers : has_outside (Number ∷ []) (operands mid) ≡ false
-  pub names : names_nothing (program_of form) mid ≡ false
-  pub kinds : has_other_kind (Number ∷ []) (operands mid) ≡ false
-  pub unmixed : mixes_kinds (Number ∷ []) mid ≡ false
-  pub jumps : (code : List MidLine) (place : ℕ) → jumps_wrongly code place mid ≡ false
+  pub fields : (place : ℕ) → fields_rule (program_of form) (main_of form) place (fields mid) ≡ None
   pub fits : misfits (program_of form) 1 (main_of form) mid ≡ false
   pub way : Leads mid ⊎ (mid ≡ Exit 0)
 
+small_value : (form : FirstForm) (place v : ℕ) → v ≤ 2147483647 → field_rule (program_of form) (main_of form) place (Value v 0) ≡ None
+small_value form place v most = rw (lt-leb (2 ^ 44) v (omega arith)) (by_test (nat_lt 0 v))
+  where
+    by_test : (b : Bool) → broken 4 (b && false) ≡ None
+    by_test true = refl
+    by_test false = refl
+
 const_ours : (form : FirstForm) (v : ℕ) → v ≤ 2147483647 → IsOurs form (Const 0 v)
 const_ours form v h = record {
-  bounded = lt-leb (2 ^ 44) v (omega arith);
-  registers = refl;
-  names = refl;
-  kinds = refl;
-  unmixed = refl;
-  jumps = λ code place. refl;
+  fields = λ place. ap (λ rule. lesser None (lesser rule None)) (small_value form place v h);
   fits = refl;
   way = inl (record { final = refl; next = λ place. refl; keeps = λ place found. refl; closes = λ found. refl });
 }
 
 put_ours : (form : FirstForm) → IsOurs form (Put 0)
 put_ours form = record {
-  bounded = refl;
-  registers = refl;
-  names = refl;
-  kinds = refl;
-  unmixed = refl;
-  jumps = λ code place. refl;
+  fields = λ place. refl;
   fits = refl;
   way = inl (record { final = refl; next = λ place. refl; keeps = λ place found. refl; closes = λ found. refl });
 }
 
 conv_ours : (form : FirstForm) → IsOurs form (Conv Int UChar 0 0)
 conv_ours form = record {
-  bounded = refl;
-  registers = refl;
-  names = refl;
-  kinds = refl;
-  unmixed = refl;
-  jumps = λ code place. refl;
+  fields = λ place. refl;
   fits = refl;
   way = inl (record { final = refl; next = λ place. refl; keeps = λ place found. refl; closes = λ found. refl });
 }
 
 exit_ours : (form : FirstForm) → IsOurs form (Exit 0)
-exit_ours form = record {
-  bounded = refl;
-  registers = refl;
-  names = refl;
-  kinds = refl;
-  unmixed = refl;
-  jumps = λ code place. refl;
-  fits = refl;
-  way = inr refl;
-}
+exit_ours form = record { fields = λ place. refl; fits = refl; way = inr refl }
 
 abbrev IsOurLine : FirstForm → MidLine → Type 0
 IsOurLine form l = IsOurs form l.mid
@@ -106,24 +88,24 @@ puts_ours form (p ∷ others) rest h r = subst (λ (x : List MidLine). AllByRecu
 AreOurs : FirstForm → List MidLine → Type 0
 AreOurs form code = (place : ℕ) (l : MidLine) → slice_get code place ≡ Some l → IsOurs form l.mid
 
-other_place : (form : FirstForm) (mid : Mid) (place target : ℕ) → IsOurs form mid → place + 1 ≢ target → enters place mid target ≡ false
+other_place : (form : FirstForm) (mid : Mid) (place target : ℕ) → IsOurs form mid → place + 1 ≢ target → is_target place mid target ≡ false
 other_place form mid place target ours other = by_way ours.way
   where
-    by_way : Leads mid ⊎ (mid ≡ Exit 0) → enters place mid target ≡ false
+    by_way : Leads mid ⊎ (mid ≡ Exit 0) → is_target place mid target ≡ false
     by_way (inl leads) = ap (list_any (λ next. next == target)) (leads.next place) ∙ ap (λ b. b || false) (ne_eqb (place + 1) target other)
-    by_way (inr exit) = ap (λ x. enters place x target) exit
+    by_way (inr exit) = ap (λ x. is_target place x target) exit
 
 no_entry : (form : FirstForm) (place target : ℕ) (found : Option (List ℕ)) (line : Option MidLine) → ((l : MidLine) → line ≡ Some l → IsOurs form l.mid) → place + 1 ≢ target → entry target place found line ≡ None
 no_entry form place target None line ours other = refl
 no_entry form place target (Some found) None ours other = refl
-no_entry form place target (Some found) (Some l) ours other = ap (λ b. if b then Some (leaves place l.mid found) else None) (other_place form l.mid place target (ours l refl) other)
+no_entry form place target (Some found) (Some l) ours other = ap (λ b. if b then Some (open_behind place l.mid found) else None) (other_place form l.mid place target (ours l refl) other)
 
-not_before : (form : FirstForm) (code : List MidLine) → AreOurs form code → (n target : ℕ) → n < target → entered code n target ≡ None
-unfolding entered AreOurs
+not_before : (form : FirstForm) (code : List MidLine) → AreOurs form code → (n target : ℕ) → n < target → entered_by code n target ≡ None
+unfolding entered_by AreOurs
 not_before form code ours zero target h = ap (λ b. if b then Some [] else None) (ne_eqb target 0 (λ e. absurd (omega (arith, e, h))))
 not_before form code ours (suc place) target h =
     let first = not_before form code ours place target (omega arith) in
-    let last = no_entry form place target (entered code place place) (slice_get code place) (ours place) (λ e. absurd (omega (arith, e, h))) in
+    let last = no_entry form place target (entered_by code place place) (slice_get code place) (ours place) (λ e. absurd (omega (arith, e, h))) in
     rw (first, last) refl
 
 same_places-same : (xs : List ℕ) → same_places xs xs ≡ true
@@ -132,12 +114,12 @@ same_places-same (x ∷ xs) = rw (eq-eqb x x refl) (same_places-same xs)
 
 -- what is open at the next place
 found_next : (form : FirstForm) (code : List MidLine) (place : ℕ) (l : MidLine) (found : List ℕ) → AreOurs form code → slice_get code place ≡ Some l → found_at code place ≡ Some found → Leads l.mid → found_at code (place + 1) ≡ Some found
-unfolding entered
+unfolding entered_by
 found_next form code place l found ours at here leads =
     let e : place + 1 ≡ suc place = omega arith in
-    let before : entered code place (suc place) ≡ None = not_before form code ours place (suc place) (omega arith) in
-    let goes : enters place l.mid (suc place) ≡ true = ap (list_any (λ next. next == suc place)) (leads.next place) ∙ ap (λ b. b || false) (eq-eqb (place + 1) (suc place) (omega arith)) in
-    let step : entry (suc place) place (Some found) (Some l) ≡ Some found = ap (λ b. if b then Some (leaves place l.mid found) else None) goes ∙ ap Some (leads.keeps place found) in
+    let before : entered_by code place (suc place) ≡ None = not_before form code ours place (suc place) (omega arith) in
+    let goes : is_target place l.mid (suc place) ≡ true = ap (list_any (λ next. next == suc place)) (leads.next place) ∙ ap (λ b. b || false) (eq-eqb (place + 1) (suc place) (omega arith)) in
+    let step : entry (suc place) place (Some found) (Some l) ≡ Some found = ap (λ b. if b then Some (open_behind place l.mid found) else None) goes ∙ ap Some (leads.keeps place found) in
     rw (e, before, here, at) step
 
 in_order : (form : FirstForm) (code : List MidLine) (place : ℕ) (l : MidLine) → AreOurs form code → slice_get code place ≡ Some l → breaks_order code place l.mid ≡ false
@@ -147,10 +129,10 @@ in_order form code place l ours at = by_found (found_at code place) refl
     by_way : (found : List ℕ) → found_at code place ≡ Some found → Leads l.mid ⊎ (l.mid ≡ Exit 0) → (closes_wrongly l.mid found || enters_wrongly code place l.mid found) ≡ false
     by_way found here (inl leads) =
         let next = found_next form code place l found ours at here leads in
-        let test : has_others (found_at code (place + 1)) (leaves place l.mid found) ≡ false =
-        ap (λ o. has_others o (leaves place l.mid found)) next ∙ ap (λ xs. has_others (Some found) xs) (leads.keeps place found) ∙ ap not (same_places-same found) in
+        let test : has_others (found_at code (place + 1)) (open_behind place l.mid found) ≡ false =
+        ap (λ o. has_others o (open_behind place l.mid found)) next ∙ ap (λ xs. has_others (Some found) xs) (leads.keeps place found) ∙ ap not (same_places-same found) in
         let enters : enters_wrongly code place l.mid found ≡ false =
-        ap (list_any (λ target. nat_lt target (length code) && has_others (found_at code target) (leaves place l.mid found))) (leads.next place)
+        ap (list_any (λ target. nat_lt target (length code) && has_others (found_at code target) (open_behind place l.mid found))) (leads.next place)
         ∙ ap (λ b. (nat_lt (place + 1) (length code) && b) || false) test ∙ both (nat_lt (place + 1) (length code)) in
         rw (leads.closes found, enters) refl
       where
@@ -201,7 +183,7 @@ module _ (form : FirstForm) (few : length form.puts ≤ 20000) (ints : AllByRecu
   line_kept place l found =
       let k = ours place l found in
       let params : (place == 0 && misfits_params (main_of form) (slice_get (program_of form).types (main_of form).ty)) ≡ false = no_param (place == 0) in
-      let early : early_rule (program_of form) 1 (main_of form) place l.mid ≡ None = rw (k.bounded, k.registers, k.names, k.kinds, k.unmixed, k.jumps (code_of form) place, followed place l found, k.fits, params) refl in
+      let early : early_rule (program_of form) 1 (main_of form) place l.mid ≡ None = rw (k.fields place, followed place l found, k.fits, params) refl in
       rw (early, in_order form (code_of form) place l ours found) refl
     where
       no_param : (b : Bool) → (b && false) ≡ false
@@ -238,9 +220,11 @@ pub program_valid : (bytes : List ℕ) (form : FirstForm) → IsFirstForm bytes 
 program_valid bytes form is = record { unbroken = none_broken form is.puts is.constants is.status }
 
 -- each statement takes a site, and so do the two ends of main
-site_count-code : (puts : List PutConstant) (rest : List MidLine) → site_count 1 (flat_map put_code puts ++ rest) ≡ length puts + site_count 1 rest
-site_count-code [] rest = omega arith
-site_count-code (p ∷ others) rest = ap (λ (x : List MidLine). site_count 1 (x ++ rest)) (flat_map-cons put_code p others) ∙ omega (arith, site_count-code others rest)
+site_count-code : (form : FirstForm) (shared : Shared) (place : ℕ) (puts : List PutConstant) → site_count (sharings 1 shared place (flat_map put_code puts ++ tail_code form)) ≡ length puts + 2
+site_count-code form shared place [] = omega arith
+site_count-code form shared place (p ∷ others) =
+    ap (λ (x : List MidLine). site_count (sharings 1 shared place (x ++ tail_code form))) (flat_map-cons put_code p others)
+    ∙ omega (arith, site_count-code form shared (place + 1 + 1 + 1) others)
 
 -- each instruction is one of the first form
 abbrev IsPlain : MidLine → Type 0
@@ -262,7 +246,14 @@ plain_tail form = All-from_recursion IsPlain (tail_code form) (tt, (tt, (tt, (tt
 plain_functions : (form : FirstForm) → All (λ f. All IsPlain f.code) (protected_functions (program_of form))
 plain_functions form = All-from_recursion (λ (f : MidFunction). All IsPlain f.code) (main_of form ∷ []) (plain_code form.puts (tail_code form) (plain_tail form), tt)
 
-pub program_sites : (bytes : List ℕ) (form : FirstForm) → IsFirstForm bytes form → HasSites (program_of form)
+pub program_sites : (bytes : List ℕ) (form : FirstForm) → IsFirstForm bytes form → HasSites (everything_shared (program_of form))
 program_sites bytes form is =
-    let sum : all_sites (program_of form) ≡ 0 + site_count 1 (code_of form) = refl in
-    record { valid = program_valid bytes form is; limit = omega (arith, is.puts, sum, site_count-code form.puts (tail_code form)); first_form = plain_functions form }
+    let count = site_count (sharings 1 (all_of (main_of form)) 0 (code_of form)) in
+    let sum : all_sites (everything_shared (program_of form)) ≡ (0 + count) + 0 = refl in
+    let valid = program_valid bytes form is in
+    record {
+      valid = valid;
+      closed = everything_closed (program_of form) valid;
+      limit = omega (arith, is.puts, sum, site_count-code form (all_of (main_of form)) 0 form.puts);
+      first_form = plain_functions form;
+    }

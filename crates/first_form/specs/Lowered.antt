@@ -8,6 +8,7 @@ use Rattle.mid_code.specs.declared.program.MidLine.{MidLine}
 use Rattle.mid_code.specs.declared.program.MidFunction.{MidFunction}
 use Rattle.mid_code.specs.declared.program.MidProgram.{MidProgram}
 use Rattle.mid_code.specs.declared.mid.Mid.TheVariants.{Const, Conv, Put, Exit}
+use Rattle.mid_code.specs.Closed.{everything_shared}
 use Rattle.mid_code.specs.Pairs.{HasSites}
 use Rattle.mid_code.specs.Meaning.{Middle}
 use Rattle.first_form.specs.declared.source.PutConstant.{PutConstant}
@@ -52,5 +53,5 @@ program_of form = record {
 -- the program is the form's, fit to be run by two sides, and means what a source of this form does
 pub record Implements (program : MidProgram) (form : FirstForm) : Type 0 where
   pub same : program ≡ program_of form
-  pub sites : HasSites program
+  pub sites : HasSites (everything_shared program)
   pub means : (input : List ℕ) (limits : Limits) → Middle program input limits (events_of form) (end_of form)

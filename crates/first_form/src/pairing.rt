@@ -1,23 +1,27 @@
-ghost use Rattle.std.specs.Prelude.{◌≡◌, ◌+◌, ◌<◌, ◌≤◌, [], ◌∷◌, ◌++◌, IfOk, OnOk};
-ghost use Rattle.mid_code.specs.Classes.{site_of, class_of, sites_of, site_count, classes_from, classes_of};
-ghost use Rattle.mid_code.specs.Pairs.{HasSites};
-ghost use Rattle.first_form.specs.Pairing.{leading_exchange, trailing_exchange, sites_in};
-ghost use Rattle.mid_code.specs.Versions.{leading_ops, trailing_ops, with_line, version_code, leading_versions, trailing_versions};
+ghost use Rattle.std.specs.Prelude.{◌≡◌, ℕ, ◌+◌, ◌<◌, ◌≤◌, [], ◌∷◌, ◌++◌, map, length, All, IfOk, OnOk};
+ghost use Rattle.mid_code.specs.Classes.{site_of, sharing_of, sharings, sites_of, site_count, class_of, classes_from, classes_of, shared_program};
+ghost use Rattle.mid_code.specs.Closed.{everything_shared};
+ghost use Rattle.mid_code.specs.Pairs.{IsOfFirstForm, HasSites};
+ghost use Rattle.mid_code.specs.Versions.{leading, trailing, group_of, groups_from, with_line, leading_versions, trailing_versions};
+ghost use Rattle.first_form.specs.Pairing.{leading_echo, trailing_echo};
 
 use mid_code::{
-    Asks, Class, Classed, Mid, MidLine, MidProgram, Pair, Version, VersionLine, VersionOp,
+    Class, Classed, Mid, MidLine, MidProgram, Operands, Pair, Shared, Version, VersionLine,
+    VersionOp, everything_shared,
 };
 use sqlite_items::Items;
-use srmt_base::Site;
+use srmt_base::{RequestKind, Site};
 use std::alloc::{AllocError, Global};
 
-/// The pair of a program: the classes of its instructions, and the versions for the two sides.
+/// The pair of a program, all of which is shared: the classes of its instructions, and the versions
+/// for the two sides.
 pub fn pair_of(alloc: Global, program: MidProgram) -> Result<Pair, AllocError>
-    requires { HasSites program }
-    ensures { IfOk result (λ pair. pair ≡ program) }
+    requires { HasSites (everything_shared program) }
+    ensures { IfOk result (λ pair. pair ≡ everything_shared program) }
 {
-    let parts = program_parts(alloc, &program)?;
-    let classed = Classed::new(program, parts.classes);
+    let shared = everything_shared(alloc, &program)?;
+    let parts = program_parts(alloc, &program, shared.as_slice())?;
+    let classed = Classed::new(program, shared, parts.classes);
     Ok(Pair::new(classed, parts.leading, parts.trailing))
 }
 
@@ -32,36 +36,36 @@ struct ProgramParts {
 // The classes and the versions of one function, and the first site behind it.
 #[derive(Drop)]
 struct FunctionParts {
-    classes: Items<Class>,
-    leading: Items<VersionLine>,
-    trailing: Items<VersionLine>,
+    classes: Vec<Class>,
+    leading: Vec<VersionLine>,
+    trailing: Vec<VersionLine>,
     next: u32,
 }
 
-fn program_parts(alloc: Global, program: &MidProgram) -> Result<ProgramParts, AllocError>
-    requires { HasSites program.now }
-    ensures classes { IfOk result (λ parts. parts.classes ≡ classes_of program.now) }
-    ensures leading { IfOk result (λ parts. parts.leading ≡ leading_versions program.now) }
-    ensures trailing { IfOk result (λ parts. parts.trailing ≡ trailing_versions program.now) }
+fn program_parts(
+    alloc: Global,
+    program: &MidProgram,
+    shared: &[Shared],
+) -> Result<ProgramParts, AllocError>
+    requires { HasSites (shared_program program.now shared.now) }
+    ensures classes { IfOk result (λ parts. parts.classes ≡ classes_of (shared_program program.now shared.now)) }
+    ensures leading { IfOk result (λ parts. parts.leading ≡ leading_versions (shared_program program.now shared.now)) }
+    ensures trailing { IfOk result (λ parts. parts.trailing ≡ trailing_versions (shared_program program.now shared.now)) }
 {
-    let functions = &program.functions.as_slice()[..usize::from(program.main_functions)];
+    let mains = program.main_functions;
+    let functions = &program.functions.as_slice()[..usize::from(mains)];
     let mut classes = Items::new(alloc);
     let mut leading = Items::new(alloc);
     let mut trailing = Items::new(alloc);
     let mut site = 1;
-    for function in functions {
-        let parts = function_parts(
-            alloc,
-            program.main_functions,
-            function.code.as_slice(),
-            site,
-        )?;
-        classes.push(parts.classes)?;
+    for (index, function) in functions.iter().enumerate() {
+        let parts = function_parts(alloc, mains, &shared[index], function.code.as_slice(), site)?;
+        classes.push(Items::from_vec(parts.classes))?;
         leading.push(Version {
-            code: parts.leading,
+            code: Items::from_vec(parts.leading),
         })?;
         trailing.push(Version {
-            code: parts.trailing,
+            code: Items::from_vec(parts.trailing),
         })?;
         site = parts.next;
     }
@@ -75,142 +79,127 @@ fn program_parts(alloc: Global, program: &MidProgram) -> Result<ProgramParts, Al
 fn function_parts(
     alloc: Global,
     mains: u16,
+    shared: &Shared,
     code: &[MidLine],
     first: u32,
 ) -> Result<FunctionParts, AllocError>
-    requires { first + site_count mains code.now ≤ 65536 }
-    ensures classes { IfOk result (λ parts. parts.classes ≡ classes_from mains first code.now) }
-    ensures leading { IfOk result (λ parts. parts.leading ≡ version_code mains leading_ops first code.now) }
-    ensures trailing { IfOk result (λ parts. parts.trailing ≡ version_code mains trailing_ops first code.now) }
-    ensures next { IfOk result (λ parts. parts.next ≡ first + site_count mains code.now) }
+    requires plain { All (λ l. IsOfFirstForm l.mid) code.now }
+    requires sites { first + site_count (sharings mains shared.now 0 code.now) ≤ 65536 }
+    ensures classes { IfOk result (λ parts. parts.classes.items ≡ classes_from first (sharings mains shared.now 0 code.now)) }
+    ensures leading { IfOk result (λ parts. (moved : ℕ → ℕ) → parts.leading.items
+        ≡ groups_from leading moved 0 (classes_from first (sharings mains shared.now 0 code.now)) code.now) }
+    ensures trailing { IfOk result (λ parts. (moved : ℕ → ℕ) → parts.trailing.items
+        ≡ groups_from trailing moved 0 (classes_from first (sharings mains shared.now 0 code.now)) code.now) }
+    ensures next { IfOk result (λ parts. parts.next ≡ first + site_count (sharings mains shared.now 0 code.now)) }
 {
     let mut parts = FunctionParts {
-        classes: Items::new(alloc),
-        leading: Items::new(alloc),
-        trailing: Items::new(alloc),
+        classes: Vec::with_capacity(alloc, code.len())?,
+        leading: Vec::with_capacity(alloc, code.len())?,
+        trailing: Vec::with_capacity(alloc, code.len())?,
         next: first,
     };
-    for line in code {
-        add_line(alloc, mains, *line, &mut parts)?;
+    for (place, line) in code.iter().enumerate() {
+        add_line(mains, shared, place, *line, &mut parts)?;
     }
     Ok(parts)
 }
 
 // Adds an instruction to the parts of its function.
 fn add_line(
-    alloc: Global,
-    mains: u16,
+    _mains: u16,
+    _shared: &Shared,
+    _place: usize,
     line: MidLine,
     parts: &mut FunctionParts,
 ) -> Result<(), AllocError>
-    requires { parts.old.next + sites_of mains line.mid ≤ 65536 }
-    ensures classes { OnOk result (parts.new.classes ≡ parts.old.classes ++ class_of mains parts.old.next line.mid ∷ []) }
-    ensures leading { OnOk result (parts.new.leading ≡ parts.old.leading ++ with_line line.line (leading_ops parts.old.next line.mid)) }
-    ensures trailing { OnOk result (parts.new.trailing ≡ parts.old.trailing ++ with_line line.line (trailing_ops parts.old.next line.mid)) }
-    ensures next { OnOk result (parts.new.next ≡ parts.old.next + sites_of mains line.mid) }
-{
-    add_versions(alloc, mains, line, parts)?;
-    let class = class_of(mains, &line.mid, parts.next);
-    parts.next += sites_in(&class);
-    parts.classes.push(class)?;
-    Ok(())
-}
-
-// The class of an instruction, which takes this site if it takes one.
-fn class_of(mains: u16, mid: &Mid, site: u32) -> Class
-    requires { site + sites_of mains mid.now ≤ 65536 }
-    ensures { result ≡ class_of mains site mid.now }
-{
-    match mid {
-        Mid::VLoad { .. }
-        | Mid::VStore { .. }
-        | Mid::Put { .. }
-        | Mid::Get { .. }
-        | Mid::Exit { .. }
-        | Mid::CallPtr { .. } => Class::FailStop(Site(site as u16)),
-        Mid::Call { function, .. } => {
-            if *function > mains {
-                Class::FailStop(Site(site as u16))
-            } else {
-                Class::Repeatable
-            }
-        }
-        Mid::Load { .. } | Mid::Store { .. } | Mid::Open { .. } | Mid::Close { .. } => {
-            Class::NonRepeatable(Site(site as u16))
-        }
-        _ => Class::Repeatable,
-    }
-}
-
-// How many sites an instruction of a class takes.
-fn sites_in(class: &Class) -> u32
-    ensures { result ≡ sites_in class.now }
-{
-    match class {
-        Class::Repeatable => 0,
-        Class::NonRepeatable(_) | Class::FailStop(_) => 1,
-    }
-}
-
-// Adds what takes the place of an instruction in both versions.
-fn add_versions(
-    alloc: Global,
-    mains: u16,
-    line: MidLine,
-    parts: &mut FunctionParts,
-) -> Result<(), AllocError>
-    requires { parts.old.next + sites_of mains line.mid ≤ 65536 }
-    ensures classes { OnOk result (parts.new.classes ≡ parts.old.classes) }
-    ensures leading { OnOk result (parts.new.leading ≡ parts.old.leading ++ with_line line.line (leading_ops parts.old.next line.mid)) }
-    ensures trailing { OnOk result (parts.new.trailing ≡ parts.old.trailing ++ with_line line.line (trailing_ops parts.old.next line.mid)) }
-    ensures next { OnOk result (parts.new.next ≡ parts.old.next) }
+    requires plain { IsOfFirstForm line.mid }
+    requires sites { parts.old.next + sites_of (sharing_of _mains _shared.now _place line.mid) ≤ 65536 }
+    ensures classes { OnOk result (parts.new.classes.items
+        ≡ parts.old.classes.items ++ class_of parts.old.next (sharing_of _mains _shared.now _place line.mid) ∷ []) }
+    ensures leading { OnOk result ((moved : ℕ → ℕ) → parts.new.leading.items ≡ parts.old.leading.items
+        ++ with_line line.line (group_of leading moved _place
+        (class_of parts.old.next (sharing_of _mains _shared.now _place line.mid)) line.mid)) }
+    ensures trailing { OnOk result ((moved : ℕ → ℕ) → parts.new.trailing.items ≡ parts.old.trailing.items
+        ++ with_line line.line (group_of trailing moved _place
+        (class_of parts.old.next (sharing_of _mains _shared.now _place line.mid)) line.mid)) }
+    ensures next { OnOk result (parts.new.next ≡ parts.old.next + sites_of (sharing_of _mains _shared.now _place line.mid)) }
 {
     match line.mid {
         Mid::Const { .. } | Mid::Conv { .. } => {
+            parts.classes.push(Class::Repeatable)?;
             parts.leading.push(copied(line))?;
             parts.trailing.push(copied(line))?;
         }
-        Mid::Put { source } => add_exchange(alloc, line.line, Asks::Put, source, parts)?,
+        Mid::Put { source } => add_exchange(line.line, RequestKind::Put, source, parts)?,
         Mid::Exit { source } => {
-            add_exchange(alloc, line.line, Asks::Exit, source, parts)?;
+            add_exchange(line.line, RequestKind::Exit, source, parts)?;
             let end = VersionOp::End { source };
             parts.trailing.push(version_line(line.line, end))?;
         }
-        // No other instruction has versions yet, nor occurs in a pair.
-        _ => {}
+        Mid::Move { .. }
+        | Mid::Arith { .. }
+        | Mid::PtrAdd { .. }
+        | Mid::PtrDiff { .. }
+        | Mid::PtrCmp { .. }
+        | Mid::GlobAddr { .. }
+        | Mid::FunAddr { .. }
+        | Mid::Load { .. }
+        | Mid::Store { .. }
+        | Mid::VLoad { .. }
+        | Mid::VStore { .. }
+        | Mid::Open { .. }
+        | Mid::Close { .. }
+        | Mid::Jump { .. }
+        | Mid::JumpZ { .. }
+        | Mid::JumpN { .. }
+        | Mid::Turn
+        | Mid::Call { .. }
+        | Mid::CallPtr { .. }
+        | Mid::Return { .. }
+        | Mid::Get { .. } => unreachable!(),
     }
     Ok(())
 }
 
-// Adds an exchange that waits for the trailing side.
+// Adds an exchange that waits for the trailing side, with its site.
 fn add_exchange(
-    alloc: Global,
     line: u32,
-    asks: Asks,
+    request: RequestKind,
     source: u16,
     parts: &mut FunctionParts,
 ) -> Result<(), AllocError>
     requires { parts.old.next < 65536 }
-    ensures classes { OnOk result (parts.new.classes ≡ parts.old.classes) }
-    ensures leading { OnOk result (parts.new.leading ≡ parts.old.leading ++ with_line line (leading_exchange (site_of parts.old.next) asks source)) }
-    ensures trailing { OnOk result (parts.new.trailing ≡ parts.old.trailing ++ with_line line (trailing_exchange (site_of parts.old.next) source)) }
-    ensures next { OnOk result (parts.new.next ≡ parts.old.next) }
+    ensures classes { OnOk result (parts.new.classes.items ≡ parts.old.classes.items ++ Class.FailStop (site_of parts.old.next) ∷ []) }
+    ensures leading { OnOk result (parts.new.leading.items
+        ≡ parts.old.leading.items ++ with_line line (leading_echo (site_of parts.old.next) request source)) }
+    ensures trailing { OnOk result (parts.new.trailing.items
+        ≡ parts.old.trailing.items ++ with_line line (trailing_echo (site_of parts.old.next) source)) }
+    ensures next { OnOk result (parts.new.next ≡ parts.old.next + 1) }
 {
     let site = Site(parts.next as u16);
-    let args = Items::from_slice(alloc, &[source])?;
-    let ask = VersionOp::Ask { site, args };
-    parts.leading.push(version_line(line, ask))?;
-    let args = Items::from_slice(alloc, &[source])?;
-    let wait = VersionOp::Await { site, args };
-    parts.leading.push(version_line(line, wait))?;
-    let args = Items::from_slice(alloc, &[source])?;
-    let act = VersionOp::Act { site, asks, args };
+    let operands = Operands::One(source);
+    let act = VersionOp::Act {
+        site,
+        request,
+        target: None,
+        function: None,
+        operands,
+    };
+    parts.classes.push(Class::FailStop(site))?;
+    parts
+        .leading
+        .push(version_line(line, VersionOp::Ask { site, operands }))?;
+    parts
+        .leading
+        .push(version_line(line, VersionOp::Await { site, operands }))?;
     parts.leading.push(version_line(line, act))?;
-    let check = VersionOp::Check { site, source };
-    parts.trailing.push(version_line(line, check))?;
-    let args = Items::from_slice(alloc, &[source])?;
-    let ack = VersionOp::Ack { site, args };
-    parts.trailing.push(version_line(line, ack))?;
+    parts
+        .trailing
+        .push(version_line(line, VersionOp::Check { site, source }))?;
+    parts
+        .trailing
+        .push(version_line(line, VersionOp::Ack { site, operands }))?;
+    parts.next += 1;
     Ok(())
 }
 

@@ -3,10 +3,11 @@ use Rattle.std.proofs.Common.{◌≡◌, ◌≤◌, List, false, arith}
 use Rattle.std.specs.Prelude.{nat_lt, sum_by}
 use Rattle.std.specs.List.{list_any}
 use Rattle.std.proofs.lemmas.Bool.{ltb-false}
-use Rattle.mid_code.specs.declared.program.Static.{Static}
+use Rattle.srmt_base.specs.declared.statics.Static.{Static}
+use Rattle.srmt_base.specs.Statics.{static_cells}
 use Rattle.mid_code.specs.declared.program.MidProgram.{MidProgram}
 use Rattle.mid_code.specs.Rules.{is_bad_static, has_bad_statics}
-use Rattle.mid_code.specs.Start.{FitLimits, static_cells}
+use Rattle.mid_code.specs.Start.{FitLimits}
 use Rattle.mid_code.specs.Valid.{IsValid}
 use Rattle.mid_code.proofs.Keeping.{neither}
 use Rattle.mid_code.proofs.Naming.{whole}

@@ -6,15 +6,21 @@ use Rattle.std.proofs.lemmas.Option.{IfSome_then}
 use Rattle.srmt_base.specs.declared.event.Event.{Event}
 use Rattle.srmt_base.specs.declared.limits.Limits.{Limits}
 use Rattle.srmt_base.specs.declared.trap.SourceEnd.{SourceEnd}
+use Rattle.srmt_outside.specs.Count.{next_count, Rose}
 use Rattle.srmt_outside.specs.Told.{Appends, AppendsPrefix}
 use Rattle.mid_code.specs.declared.program.MidProgram.{MidProgram}
+use Rattle.mid_code.specs.Classes.{SharedProgram}
+use Rattle.mid_code.specs.Closed.{everything_shared}
 use Rattle.mid_code.specs.Meaning.{State, Run, Running, Ended, NoWay, preceded, exec, started, Finishes, Middle}
-use Rattle.mid_code.proofs.Runs.{one_end, stays_ended, exec_on}
+use Rattle.mid_code.proofs.OneMeaning.{one_end, stays_ended, exec_on}
 use Rattle.mid_run.specs.Progress.{Progress, At, Over, Runs}
 use Rattle.world.specs.Ideal.{IsIdeal}
 use Rattle.world.proofs.Running.{ideal_sound, ideal_whole}
 use Rattle.verdicts.specs.declared.verdict.Ran.{Ran}
+use Rattle.verdicts.specs.declared.verdict.Verdict.{Verdict}
 use Rattle.verdicts.specs.declared.verdict.Verdict.TheVariants.{WriteFault as FaultVerdict}
+use Rattle.machine.specs.Upset.{no_upsets}
+use Rattle.pair_core.specs.Faults.{faults_told}
 use Rattle.pair_core.specs.Answer.{IsAnswer, FollowsIdeal, verdict_as}
 use Rattle.pair_core.specs.Duo.{DuoState, opening_duo}
 use Rattle.pair_core.specs.Fit.{IsPrefix}
@@ -86,38 +92,48 @@ module _ (told : Option (List ℕ)) (before after : Option (List Event)) (read_f
   run_serves how limits program form is code (Err Version) ok err = absurd err
 
 -- what alternate answers of a core that was started for the program
-pub ran_by_sides : (program pair : MidProgram) (input : List ℕ) (duo : DuoState) (before after : Option (List Event)) (write_failed : Type 0) (ran : Ran) → pair ≡ program → input ≡ [] → duo ≡ opening_duo pair input LIMITS →
-    ((given : List ℕ) (limits : Limits) → duo ≡ opening_duo pair given limits → (events : List Event) × Appends before after events × IsAnswer pair given limits events ran × FollowsIdeal pair given limits events ran) →
+pub ran_by_sides : (program : MidProgram) (pair : SharedProgram) (input : List ℕ) (duo : DuoState) (before after : Option (List Event)) (write_failed : Type 0) (ran : Ran) → pair ≡ everything_shared program → input ≡ [] → duo ≡ opening_duo pair input LIMITS →
+    ((given : List ℕ) (limits : Limits) → duo ≡ opening_duo pair given limits → (events : List Event) × Appends before after events × IsAnswer pair given limits no_upsets events ran × FollowsIdeal pair given limits events ran) →
     (ran.verdict ≡ FaultVerdict → write_failed) → RanBySides program LIMITS before after write_failed ran
 ran_by_sides program pair input duo before after write_failed ran same none opening answers failed =
     let a = answers [] LIMITS (opening ∙ ap (λ (i : List ℕ). opening_duo pair i LIMITS) none) in
-    subst (λ (p : MidProgram). RanBySides p LIMITS before after write_failed ran) same (record { events = a.0; written = a.1; answer = a.2; follows = a.3; failed = failed })
+    record {
+      events = a.0;
+      written = a.1;
+      answer = subst (λ (p : SharedProgram). IsAnswer p [] LIMITS no_upsets a.0 ran) same a.2;
+      follows = subst (λ (p : SharedProgram). FollowsIdeal p [] LIMITS a.0 ran) same a.3;
+      failed = failed;
+    }
+
+-- the count rose where the verdict tells a fault
+pub rose_by : (verdict : Verdict) (before after : ℕ) → after ≡ faults_told verdict before → verdict ≡ FaultVerdict → Rose before after
+rose_by verdict before after e fault = let same : after ≡ next_count before = e ∙ ap (λ v. faults_told v before) fault in omega (arith, same)
 
 -- both sides of the program give what the source does
 pub both_runs : (program : MidProgram) (form : FirstForm) (before after : Option (List Event)) (write_failed : Type 0) (ran : Ran) → Implements program form → RanBySides program LIMITS before after write_failed ran → RunsBoth form before after write_failed ran
 both_runs program form before after write_failed ran code r = record {
   events = r.events;
   written = r.written;
-  answer = subst (λ (p : MidProgram). IsAnswer p [] LIMITS r.events ran) code.same r.answer;
+  answer = subst (λ (p : MidProgram). IsAnswer (everything_shared p) [] LIMITS no_upsets r.events ran) code.same r.answer;
   outcome = by_end r.follows.whole;
 }
   where
     means : Middle program [] LIMITS (events_of form) (end_of form)
     means = code.means [] LIMITS
 
-    whole_run : (words : List ℕ) × IsIdeal program [] LIMITS words (events_of form) (end_of form)
-    whole_run = ideal_whole program code.sites [] LIMITS (events_of form) (end_of form) means
+    whole_run : (words : List ℕ) × IsIdeal (everything_shared program) [] LIMITS words (events_of form) (end_of form)
+    whole_run = ideal_whole (everything_shared program) code.sites [] LIMITS (events_of form) (end_of form) means
 
     first : IsPrefix r.events (events_of form)
-    first = first_events program [] LIMITS code.sites r.events (events_of form) whole_run.0 (end_of form) r.follows.first whole_run.1
+    first = first_events (everything_shared program) [] LIMITS code.sites r.events (events_of form) whole_run.0 (end_of form) r.follows.first whole_run.1
 
-    by_end : ((ran.verdict ≡ FaultVerdict) ⊎ ((end : SourceEnd) × (words : List ℕ) × IsIdeal program [] LIMITS words r.events end × (ran.verdict ≡ verdict_as end))) →
+    by_end : ((ran.verdict ≡ FaultVerdict) ⊎ ((end : SourceEnd) × (words : List ℕ) × IsIdeal (everything_shared program) [] LIMITS words r.events end × (ran.verdict ≡ verdict_as end))) →
         ((ran.verdict ≡ FaultVerdict) × write_failed × AppendsPrefix before after (events_of form)) ⊎ ((r.events ≡ events_of form) × (ran.verdict ≡ verdict_as (end_of form)))
     by_end (inl fault) =
         let front : take (length r.events) (events_of form) ≡ r.events = ap (take (length r.events)) first.1 ∙ take-append_seam r.events first.0 in
         inl (fault, r.failed fault, (length r.events, r.written ∙ ap (λ es. option_map (λ told. told ++ es) before) (sym front)))
     by_end (inr (end, words, ideal, verdict)) =
-        let one = one_end program (started program [] LIMITS) r.events (events_of form) end (end_of form) (ideal_sound program code.sites [] LIMITS words r.events end ideal) means in
+        let one = one_end program (started program [] LIMITS) r.events (events_of form) end (end_of form) (ideal_sound (everything_shared program) code.sites [] LIMITS words r.events end ideal) means in
         inr (one.0, verdict ∙ ap verdict_as one.1)
 
 module _ (told : Option (List ℕ)) (before after : Option (List Event)) (read_failed write_failed : Type 0) (bytes : List ℕ) (same : IfSome told (λ t. t ≡ bytes)) (within : length bytes ≤ 1048576) where

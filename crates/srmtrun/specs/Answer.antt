@@ -1,7 +1,9 @@
 -- What a run is answered as.
-use Rattle.std.specs.Prelude.{Result, Ok, Err}
+use Rattle.std.specs.Prelude.{ℕ, Result, Ok, Err}
 use Rattle.srmt_base.specs.declared.trap.SourceEnd.{SourceEnd}
+use Rattle.srmt_outside.specs.Count.{next_count}
 use Rattle.verdicts.specs.declared.verdict.Ran.{Ran}
+use Rattle.pair_core.specs.Faults.{faults_told}
 use Rattle.answers.specs.declared.answer.RunAnswer.{RunAnswer}
 use Rattle.answers.specs.declared.answer.RunAnswer.TheVariants.{Alone, Ran as RanBoth, Help, Version, Usage, ReadFault, TooLong, Refused, WriteFault, OutOfMemory}
 
@@ -26,3 +28,17 @@ IsOfWords TooLong = ⊥
 IsOfWords (Refused refusal) = ⊥
 IsOfWords WriteFault = ⊥
 IsOfWords OutOfMemory = ⊥
+
+-- the outlet's count of faults after a run, by its answer: one more where that tells that an event failed, and else as
+-- it was
+abbrev pub write_faults_after : RunAnswer → ℕ → ℕ
+write_faults_after (Alone end) faults = faults
+write_faults_after (RanBoth ran) faults = faults_told ran.verdict faults
+write_faults_after WriteFault faults = next_count faults
+write_faults_after ReadFault faults = faults
+write_faults_after TooLong faults = faults
+write_faults_after (Refused refusal) faults = faults
+write_faults_after OutOfMemory faults = faults
+write_faults_after Usage faults = faults
+write_faults_after Help faults = faults
+write_faults_after Version faults = faults

@@ -5,9 +5,11 @@ use Rattle.srmt_base.specs.declared.limits.Limits.{Limits}
 use Rattle.srmt_base.specs.declared.trap.SourceEnd.{SourceEnd}
 use Rattle.srmt_outside.specs.Told.{Appends, AppendsPrefix}
 use Rattle.mid_code.specs.declared.program.MidProgram.{MidProgram}
+use Rattle.mid_code.specs.Closed.{everything_shared}
 use Rattle.mid_code.specs.Meaning.{Middle}
 use Rattle.verdicts.specs.declared.verdict.Ran.{Ran}
 use Rattle.verdicts.specs.declared.verdict.Verdict.TheVariants.{WriteFault as FaultVerdict}
+use Rattle.machine.specs.Upset.{no_upsets}
 use Rattle.pair_core.specs.Answer.{IsAnswer, FollowsIdeal}
 use Rattle.answers.specs.declared.answer.RunAnswer.{RunAnswer}
 use Rattle.answers.specs.declared.answer.RunAnswer.TheVariants.{Alone, Ran as RanBoth, Help, Version, Usage, ReadFault, TooLong, Refused, WriteFault, OutOfMemory}
@@ -57,10 +59,10 @@ StopsRun program limits before after write_failed Usage = ⊥
 StopsRun program limits before after write_failed Help = ⊥
 StopsRun program limits before after write_failed Version = ⊥
 
--- what a run of both sides of a program gives
+-- what a run of both sides of a program gives, all of which is shared
 pub record RanBySides (program : MidProgram) (limits : Limits) (before after : Option (List Event)) (write_failed : Type 0) (ran : Ran) : Type 0 where
   pub events : List Event
   pub written : Appends before after events
-  pub answer : IsAnswer program [] limits events ran
-  pub follows : FollowsIdeal program [] limits events ran
+  pub answer : IsAnswer (everything_shared program) [] limits no_upsets events ran
+  pub follows : FollowsIdeal (everything_shared program) [] limits events ran
   pub failed : ran.verdict ≡ FaultVerdict → write_failed

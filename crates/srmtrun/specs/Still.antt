@@ -5,6 +5,8 @@ use Rattle.srmt_base.specs.declared.trap.SourceEnd.{SourceEnd}
 use Rattle.srmt_outside.specs.Told.{Appends, AppendsPrefix}
 use Rattle.verdicts.specs.declared.verdict.Ran.{Ran}
 use Rattle.verdicts.specs.declared.verdict.Verdict.TheVariants.{WriteFault as FaultVerdict}
+use Rattle.mid_code.specs.Closed.{everything_shared}
+use Rattle.machine.specs.Upset.{no_upsets}
 use Rattle.pair_core.specs.Answer.{IsAnswer, verdict_as}
 use Rattle.answers.specs.declared.answer.RunAnswer.{RunAnswer}
 use Rattle.answers.specs.declared.answer.RunAnswer.TheVariants.{Alone, Ran as RanBoth, Help, Version, Usage, ReadFault, TooLong, Refused, WriteFault, OutOfMemory}
@@ -52,7 +54,7 @@ StopsWriting told before after = (form : FirstForm) × IsSource told form × App
 pub record RunsBoth (form : FirstForm) (before after : Option (List Event)) (write_failed : Type 0) (ran : Ran) : Type 0 where
   pub events : List Event
   pub written : Appends before after events
-  pub answer : IsAnswer (program_of form) [] LIMITS events ran
+  pub answer : IsAnswer (everything_shared (program_of form)) [] LIMITS no_upsets events ran
   pub outcome : ((ran.verdict ≡ FaultVerdict) × write_failed × AppendsPrefix before after (events_of form)) ⊎ ((events ≡ events_of form) × (ran.verdict ≡ verdict_as (end_of form)))
 
 -- the file is a source of some form, and both sides of its pair ran so

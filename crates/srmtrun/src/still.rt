@@ -6,15 +6,17 @@ ghost use Rattle.srmt_outside.specs.Files.{Asks as AsksFile};
 ghost use Rattle.srmt_outside.specs.Told.{Appends, AppendsPrefix};
 ghost use Rattle.mid_code.specs.Valid.{IsValid};
 ghost use Rattle.mid_code.specs.Meaning.{Middle};
+ghost use Rattle.mid_code.specs.Closed.{everything_shared};
 ghost use Rattle.mid_code.specs.Pairs.{HasSites};
 ghost use Rattle.verdicts.specs.declared.verdict.Ran.{Ran};
+ghost use Rattle.pair_core.specs.Faults.{faults_told};
 ghost use Rattle.answers.specs.Answer.{final_status, NeverRan};
 ghost use Rattle.answers.specs.Notes.{lines_of, written};
 ghost use Rattle.first_form.specs.declared.source.FirstForm.{FirstForm};
 ghost use Rattle.first_form.specs.FirstForm.{IsFirstForm};
 ghost use Rattle.first_form.specs.Lowered.{Implements};
 ghost use Rattle.srmtrun.specs.declared.words.Mode.{Mode};
-ghost use Rattle.srmtrun.specs.Answer.{answer_from, both_from, IsOfWords};
+ghost use Rattle.srmtrun.specs.Answer.{answer_from, both_from, IsOfWords, write_faults_after};
 ghost use Rattle.srmtrun.specs.Still.{Names, IsNoSource, IsTooLong, RunsToEnd, RanOnSource, StopsWriting, AsksFor, AnswersForm};
 ghost use Rattle.srmtrun.specs.Parts.{Serves, StopsCompiling, StopsRun, RanBySides};
 ghost use Rattle.srmtrun.specs.Words.{texts, Takes, Asks, IsUsage};
@@ -74,8 +76,6 @@ pub fn srmtrun_still<F: Files, O: Outlet + Send, N: Sink>(
     ensures write_fault { result.answer ≡ RunAnswer.WriteFault → Names (texts words.now)
         (λ mode program. (mode ≡ Mode.Single) × StopsWriting (F.contents files.old program)
         (O.events outlet.old) (O.events outlet.new)) }
-    ensures write_failed { result.answer ≡ RunAnswer.WriteFault
-        → Rose (O.faults outlet.old) (O.faults outlet.new) }
     ensures read_failed { result.answer ≡ RunAnswer.ReadFault
         → Rose (F.faults files.old) (F.faults files.new) }
     ensures too_long { result.answer ≡ RunAnswer.TooLong → Names (texts words.now)
@@ -90,7 +90,10 @@ pub fn srmtrun_still<F: Files, O: Outlet + Send, N: Sink>(
     ensures asks_nothing { IsOfWords result.answer → F.asked files.new ≡ F.asked files.old }
     ensures contents { F.contents files.new ≡ F.contents files.old }
     ensures read_faults { F.faults files.old ≤ F.faults files.new }
-    ensures write_faults { O.faults outlet.old ≤ O.faults outlet.new }
+
+    // The outlet counts one fault more exactly where the answer tells that an event failed.
+    ensures write_faults { O.faults outlet.new
+        ≡ write_faults_after result.answer (O.faults outlet.old) }
 
     // The status of the answer, and its lines, or a first part of them where the notes failed.
     ensures status { result.status ≡ final_status result.noted result.answer }
@@ -126,7 +129,7 @@ fn answer<F: Files, O: Outlet>(
         × AsksFor result (F.asked files.old) (F.asked files.new) program) }
     ensures contents { F.contents files.new ≡ F.contents files.old }
     ensures read_faults { F.faults files.old ≤ F.faults files.new }
-    ensures write_faults { O.faults outlet.old ≤ O.faults outlet.new }
+    ensures write_faults { O.faults outlet.new ≡ write_faults_after result (O.faults outlet.old) }
 {
     match read_question(words) {
         Some(Question::Help) => return RunAnswer::Help,
@@ -154,7 +157,7 @@ fn serve<F: Files, O: Outlet>(
     ensures asks { AsksFor result (F.asked files.old) (F.asked files.new) program.now }
     ensures contents { F.contents files.new ≡ F.contents files.old }
     ensures read_faults { F.faults files.old ≤ F.faults files.new }
-    ensures write_faults { O.faults outlet.old ≤ O.faults outlet.new }
+    ensures write_faults { O.faults outlet.new ≡ write_faults_after result (O.faults outlet.old) }
 {
     match mode {
         Mode::Single => match single(alloc, program, files, outlet) {
@@ -182,7 +185,7 @@ fn single<F: Files, O: Outlet>(
     ensures asks { AsksFor (answer_from result) (F.asked files.old) (F.asked files.new) name.now }
     ensures contents { F.contents files.new ≡ F.contents files.old }
     ensures read_faults { F.faults files.old ≤ F.faults files.new }
-    ensures write_faults { O.faults outlet.old ≤ O.faults outlet.new }
+    ensures write_faults { O.faults outlet.new ≡ write_faults_after (answer_from result) (O.faults outlet.old) }
 {
     let source = load(alloc, name, files)?;
     let program = compile(alloc, &source)?;
@@ -203,7 +206,7 @@ fn both<F: Files, O: Outlet>(
     ensures asks { AsksFor (both_from result) (F.asked files.old) (F.asked files.new) name.now }
     ensures contents { F.contents files.new ≡ F.contents files.old }
     ensures read_faults { F.faults files.old ≤ F.faults files.new }
-    ensures write_faults { O.faults outlet.old ≤ O.faults outlet.new }
+    ensures write_faults { O.faults outlet.new ≡ write_faults_after (both_from result) (O.faults outlet.old) }
 {
     let source = load(alloc, name, files)?;
     let program = compile(alloc, &source)?;
@@ -248,12 +251,13 @@ fn run_sides<O: Outlet>(
     program: MidProgram,
     outlet: &mut O,
 ) -> Result<Ran, AllocError>
-    requires { HasSites program }
+    requires { HasSites (everything_shared program) }
     ensures ok { IfOk result (RanBySides program LIMITS
         (O.events outlet.old) (O.events outlet.new)
         (Rose (O.faults outlet.old) (O.faults outlet.new))) }
     ensures err { OnErr result (O.events outlet.new ≡ O.events outlet.old) }
-    ensures never_falls { O.faults outlet.old ≤ O.faults outlet.new }
+    ensures counted { IfOk result (λ ran. O.faults outlet.new ≡ faults_told ran.verdict (O.faults outlet.old)) }
+    ensures uncounted { OnErr result (O.faults outlet.new ≡ O.faults outlet.old) }
 {
     let pair = pair_of(alloc, program)?;
     let mut duo = Duo::start(alloc, &pair, Vec::new(alloc), LIMITS)?;
@@ -272,7 +276,7 @@ fn run<O: Outlet>(
     ensures err { IfErr result (StopsRun program.now LIMITS
         (O.events outlet.old) (O.events outlet.new)
         (Rose (O.faults outlet.old) (O.faults outlet.new))) }
-    ensures never_falls { O.faults outlet.old ≤ O.faults outlet.new }
+    ensures write_faults { O.faults outlet.new ≡ write_faults_after (answer_from result) (O.faults outlet.old) }
 {
     let mut run = MidRun::start(alloc, program, Vec::new(alloc), LIMITS)?;
     Ok(run.run(program, outlet)?)

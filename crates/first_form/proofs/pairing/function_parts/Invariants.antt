@@ -2,5 +2,5 @@ use Rattle.std.proofs.Common.{drop}
 use Rattle.first_form.proofs.Growing.{Grows}
 use Rattle.first_form.proofs.pairing.function_parts.Given as goal
 
-abbrev pub invariant-loop-line : goal.invariant-loop-line
-invariant-loop-line l = Grows l.fn.mains l.fn.first l.code (drop l.line-index l.code) l.parts
+abbrev pub invariant-loop-place : goal.invariant-loop-place
+invariant-loop-place l = Grows l.fn.mains l.fn.first l.fn.shared l.code (drop l.place l.code) l.place l.parts
