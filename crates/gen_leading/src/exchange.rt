@@ -97,14 +97,13 @@ fn add_exchange(lines: &mut Lines, behind: u32, site: Site, line: &MidLine)
         Mid::Close { .. } => lines.add(at, &[VersionOp::SharedClose { site }]),
         Mid::VLoad { target, pointer } => {
             let operands = Operands::One(pointer);
-            lines.add(
-                at,
-                &asked(site, RequestKind::VLoad, Some(target), None, operands),
-            );
+            let group = asked(site, RequestKind::VLoad, Some(target), None, operands);
+            lines.add(at, &group);
         }
         Mid::VStore { pointer, source } => {
             let operands = Operands::Two(pointer, source);
-            lines.add(at, &asked(site, RequestKind::VStore, None, None, operands));
+            let group = asked(site, RequestKind::VStore, None, None, operands);
+            lines.add(at, &group);
         }
         Mid::Call {
             target,
@@ -113,10 +112,8 @@ fn add_exchange(lines: &mut Lines, behind: u32, site: Site, line: &MidLine)
         } => {
             let operands = Operands::Passed(args);
             let function = Some(function);
-            lines.add(
-                at,
-                &asked(site, RequestKind::Call, Some(target), function, operands),
-            );
+            let group = asked(site, RequestKind::Call, Some(target), function, operands);
+            lines.add(at, &group);
         }
         Mid::CallPtr {
             target,
@@ -137,18 +134,18 @@ fn add_exchange(lines: &mut Lines, behind: u32, site: Site, line: &MidLine)
         }
         Mid::Put { source } => {
             let operands = Operands::One(source);
-            lines.add(at, &asked(site, RequestKind::Put, None, None, operands));
+            let group = asked(site, RequestKind::Put, None, None, operands);
+            lines.add(at, &group);
         }
         Mid::Get { target } => {
             let operands = Operands::Nothing;
-            lines.add(
-                at,
-                &asked(site, RequestKind::Get, Some(target), None, operands),
-            );
+            let group = asked(site, RequestKind::Get, Some(target), None, operands);
+            lines.add(at, &group);
         }
         Mid::Exit { source } => {
             let operands = Operands::One(source);
-            lines.add(at, &asked(site, RequestKind::Exit, None, None, operands));
+            let group = asked(site, RequestKind::Exit, None, None, operands);
+            lines.add(at, &group);
         }
     }
 }

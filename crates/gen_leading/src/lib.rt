@@ -6,6 +6,8 @@
 #![tactic(auto)]
 
 mod exchange;
+#[cfg(test)]
+mod tests;
 mod versions;
 
 pub use versions::generate;

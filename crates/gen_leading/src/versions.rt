@@ -35,7 +35,12 @@ fn versions(
     Ok(Items::from_vec(versions))
 }
 
-fn version(alloc: Global, classes: &[Class], function: &MidFunction) -> Result<Version, AllocError>
+/// The version of a function, by the classes of its instructions.
+pub fn version(
+    alloc: Global,
+    classes: &[Class],
+    function: &MidFunction,
+) -> Result<Version, AllocError>
     requires { HasClasses classes.now function.now }
     ensures { IfOk result (λ version. version ≡ version_of leading classes.now function.now) }
 {

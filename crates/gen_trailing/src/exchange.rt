@@ -1,6 +1,6 @@
 ghost use Rattle.std.specs.Prelude.{◌≡◌, ◌+◌, ◌-◌, ◌≤◌, ◌++◌, ◌∷◌, [], Some, map, length};
 ghost use Rattle.srmt_base.specs.declared.request_kind.RequestKind.{RequestKind};
-ghost use Rattle.mid_code.specs.declared.version.VersionOp.TheVariants.{Check, Ack, Take};
+ghost use Rattle.mid_code.specs.declared.version.VersionOp.TheVariants.{Check, Ack, Take, CheckOpen};
 ghost use Rattle.mid_code.specs.declared.version.Operands.TheVariants.{Passed};
 ghost use Rattle.mid_code.specs.Versions.{trailing, trailing_exchange, trailing_exchange_size, trailing_size, group_of, checked, checks, check_count};
 ghost use Rattle.mid_code.specs.Registers.{registers_list};
@@ -106,38 +106,19 @@ fn add_exchange(lines: &mut Lines, behind: u32, site: Site, line: &MidLine)
             lines.add(at, &[check(site, pointer), take(site, target)]);
         }
         Mid::Store { pointer, source } => {
-            lines.add(
-                at,
-                &[
-                    check(site, pointer),
-                    VersionOp::CheckStored { site, source },
-                ],
-            );
+            let value = VersionOp::CheckStored { site, source };
+            lines.add(at, &[check(site, pointer), value]);
         }
         Mid::VLoad { target, pointer } => {
-            let operands = Operands::One(pointer);
-            lines.add(
-                at,
-                &[
-                    check(site, pointer),
-                    ack(site, operands),
-                    take(site, target),
-                ],
-            );
+            let echo = ack(site, Operands::One(pointer));
+            lines.add(at, &[check(site, pointer), echo, take(site, target)]);
         }
         Mid::VStore { pointer, source } => {
-            let ack = ack(site, Operands::Two(pointer, source));
+            let echo = ack(site, Operands::Two(pointer, source));
             let done = VersionOp::TakeDone { site };
-            lines.add(at, &[check(site, pointer), check(site, source), ack, done]);
+            lines.add(at, &[check(site, pointer), check(site, source), echo, done]);
         }
-        Mid::Open { target, cells } => lines.add(
-            at,
-            &[VersionOp::CheckOpen {
-                site,
-                target,
-                cells,
-            }],
-        ),
+        Mid::Open { target, cells } => lines.add(at, &[open(site, target, cells)]),
         Mid::Close { .. } => lines.add(at, &[VersionOp::CheckClose { site }]),
         Mid::Call { target, args, .. } => add_call(lines, at, site, target, &args),
         Mid::CallPtr {
@@ -155,30 +136,22 @@ fn add_exchange(lines: &mut Lines, behind: u32, site: Site, line: &MidLine)
             };
             lines.add(at, &[enter, check(site, callee)]);
             add_each(lines, at, site, args.as_slice());
-            lines.add(
-                at,
-                &[
-                    ack(site, Operands::Called { callee, args }),
-                    take(site, target),
-                ],
-            );
+            let echo = ack(site, Operands::Called { callee, args });
+            lines.add(at, &[echo, take(site, target)]);
         }
         Mid::Put { source } => {
-            lines.add(at, &[check(site, source), ack(site, Operands::One(source))]);
+            let echo = ack(site, Operands::One(source));
+            lines.add(at, &[check(site, source), echo]);
         }
         Mid::Get { target } => {
             let zero = VersionOp::CheckZero { site };
-            lines.add(
-                at,
-                &[zero, ack(site, Operands::Nothing), take(site, target)],
-            );
+            let echo = ack(site, Operands::Nothing);
+            lines.add(at, &[zero, echo, take(site, target)]);
         }
         Mid::Exit { source } => {
+            let echo = ack(site, Operands::One(source));
             let end = VersionOp::End { source };
-            lines.add(
-                at,
-                &[check(site, source), ack(site, Operands::One(source)), end],
-            );
+            lines.add(at, &[check(site, source), echo, end]);
         }
     }
 }
@@ -189,8 +162,8 @@ fn add_call(lines: &mut Lines, line: u32, site: Site, target: u16, args: &Regist
     ensures { lines.new ≡ gained lines.old line (checked site (Passed args.now) ++ Take site (Some target) ∷ []) }
 {
     add_checks(lines, line, site, args);
-    let operands = Operands::Passed(*args);
-    lines.add(line, &[ack(site, operands), take(site, target)]);
+    let echo = ack(site, Operands::Passed(*args));
+    lines.add(line, &[echo, take(site, target)]);
 }
 
 // Adds a comparison for each argument of a direct call, or one of 0 where there are none.
@@ -226,6 +199,16 @@ fn ack(site: Site, operands: Operands) -> VersionOp
     ensures { result ≡ Ack site operands }
 {
     VersionOp::Ack { site, operands }
+}
+
+fn open(site: Site, target: u16, cells: u16) -> VersionOp
+    ensures { result ≡ CheckOpen site target cells }
+{
+    VersionOp::CheckOpen {
+        site,
+        target,
+        cells,
+    }
 }
 
 fn take(site: Site, target: u16) -> VersionOp

@@ -16,8 +16,8 @@ returns c =
     let echo = Ack site (Passed c.args.args.now) in
     let result = Take site (Some c.args.target) in
     c.add.ensures
-    ∙ ap (λ (g : Gathered). gained g line (c.ack.result ∷ c.take.result ∷ [])) c.add_checks.ensures.lines
-    ∙ ap (λ a. gained (gained before line compared) line (a ∷ c.take.result ∷ [])) c.ack.ensures
+    ∙ ap (λ (g : Gathered). gained g line (c.ack-echo.result ∷ c.take.result ∷ [])) c.add_checks.ensures.lines
+    ∙ ap (λ a. gained (gained before line compared) line (a ∷ c.take.result ∷ [])) c.ack-echo.ensures
     ∙ ap (λ t. gained (gained before line compared) line (echo ∷ t ∷ [])) c.take.ensures
     ∙ gained-twice before line compared (echo ∷ result ∷ [])
     ∙ ap (gained before line) (sym (append_assoc compared (echo ∷ []) (result ∷ [])))
