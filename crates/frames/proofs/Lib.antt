@@ -2,3 +2,4 @@ pub mod Rows
 pub mod Ready
 pub mod Gone
 pub mod StaticRows
+pub mod AloneRuns

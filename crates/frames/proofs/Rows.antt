@@ -1,7 +1,7 @@
 -- Parts of rows, and the activations that they are.
 use Rattle.std.proofs.Common.{ℕ, ◌+◌, ◌-◌, ◌*◌, ◌^◌, ◌<◌, ◌≤◌, ◌≡◌, zero, suc, List, [], ◌∷◌, ◌++◌, length, map, take, drop, replicate, get_or, slice_index, set, refl, ap, sym, subst, ◌∙◌, arith}
 use Rattle.std.specs.Prelude.{reverse, All}
-use Rattle.std.proofs.lemmas.List.{length-take, length-take-le, length-drop, length-append, length-replicate, length-map, length-reverse, length-set, take_all, take_more, map_push, drop-append-le, take-append-le, drop-take, take-take, take-set-le, drop-set-add, reverse-append, append_assoc, drop_at, get_or-take, get_or-drop}
+use Rattle.std.proofs.lemmas.List.{length-take, length-take-le, length-drop, length-append, length-replicate, length-map, length-reverse, length-set, take_all, take_more, take_at, drop_all, append-nil, take-append-drop, map_push, drop-append-le, take-append-le, drop-take, take-take, take-set-le, drop-set-add, reverse-append, append_assoc, drop_at, get_or-take, get_or-drop}
 use Rattle.std.proofs.Math.Seq.{take-set-lt}
 use Rattle.std.proofs.lemmas.List.Elements.{All-set, All-take, All-append, All-replicate}
 use Rattle.srmt_base.specs.declared.budgets.Budgets.{Budgets}
@@ -290,3 +290,47 @@ resized rs values xs base count to n k is long at same values_long few =
     let e : base + to - n ≡ count - k = omega (arith, len, len2) in
     let all : take (base + to) xs ≡ xs = take_all (base + to) xs (omega (arith, len, len2)) in
     rw (e, all, is) refl
+
+-- a row of which the part from a place on was handed out and written
+pub row_back : (base j n : ℕ) (xs ys zs own : List ℕ) → xs ≡ ys → base ≤ length xs → j ≡ length xs - base → n ≡ length ys → length own ≡ j →
+    drop base (take n (take base xs ++ (own ++ drop j (drop base xs)) ++ zs)) ≡ own
+row_back base j n xs ys zs own same within count all long =
+    let none : drop j (drop base xs) ≡ [] = drop_all j (drop base xs) (omega (arith, length-drop base xs)) in
+    let front : length (take base xs) ≡ base = length-take-le base xs within in
+    let both : length (take base xs ++ own) ≡ n = length-append (take base xs) own ∙ omega (arith, front, long, ap length same) in
+    let nil : own ++ [] ≡ own = append-nil own in
+    let cut : take n (take base xs ++ own ++ zs) ≡ take base xs ++ own = take_at (take base xs ++ own) zs n both in
+    rw (none, nil, cut) (drop_at (take base xs) own base front)
+
+-- what is kept after the newest activation has gone on by itself
+pub kept_ran : (room : Room) (rs rs2 : List ℕ) (os : List Begun) (top : Line) (below : List Line) (budgets budgets2 : Budgets) (rc oc lc rc2 place : ℕ) →
+    AreKept room rs os top below budgets rc oc lc → length rs2 ≡ length rs → take top.base rs2 ≡ take top.base rs → All IsValue (drop top.base rs2) →
+    depths budgets2 ≡ depths budgets → rc2 ≡ rc → AreKept room rs2 os (record top { place = place }) below budgets2 rc2 oc lc
+kept_ran room rs rs2 os top below budgets budgets2 rc oc lc rc2 place k count before own same more =
+    let front : All IsValue (take top.base rs2) = subst (All IsValue) (sym before) (All-take IsValue top.base rs k.small) in
+    let all : All IsValue rs2 = subst (All IsValue) (take-append-drop top.base rs2) (All-append IsValue (take top.base rs2) (drop top.base rs2) front own) in
+    record {
+      laid = rw count k.laid;
+      small = all;
+      few = omega (arith, k.few, same);
+      bounded = k.bounded;
+      object_bound = k.object_bound;
+      objects_within = k.objects_within;
+      registers_fit = omega (arith, k.registers_fit, more);
+      objects_fit = k.objects_fit;
+      lines_fit = k.lines_fit;
+    }
+
+-- the registers of the newest activation are the row from its base on
+pub own_registers : (rs : List ℕ) (os : List Begun) (top : Line) (below : List Line) → AreStacked (length rs) (length os) (top ∷ reverse below) →
+    take top.count (drop top.base rs) ≡ drop top.base rs
+own_registers rs os top below laid = take_all top.count (drop top.base rs) (omega (arith, laid.0, length-drop top.base rs))
+
+-- the machine after that
+pub ran-rows : (rs rs2 : List ℕ) (os : List Begun) (top : Line) (below : List Line) (budgets budgets2 : Budgets) (place : ℕ) →
+    AreStacked (length rs) (length os) (top ∷ reverse below) → length rs2 ≡ length rs → take top.base rs2 ≡ take top.base rs →
+    machine_in rs2 os (record top { place = place }) below budgets2 ≡ record (machine_in rs os top below budgets) { top = record (activation_in rs os top) { place = place; registers = drop top.base rs2 }; budgets = budgets2 }
+ran-rows rs rs2 os top below budgets budgets2 place laid count before =
+    let low : map (activation_in rs2 os) (reverse below) ≡ map (activation_in rs os) (reverse below) = below_same (reverse below) top.base top.floor rs rs2 os os before refl laid.3 in
+    let high = own_registers rs2 os top below (rw count laid) in
+    rw (low, high) refl

@@ -2,3 +2,4 @@ pub mod Kept
 pub mod Acts
 pub mod Reaching
 pub mod Statics
+pub mod Alone

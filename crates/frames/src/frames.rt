@@ -1,13 +1,18 @@
-ghost use Rattle.std.specs.Prelude.{◌≡◌, ℕ, ◌+◌, ◌-◌, ◌^◌, ◌<◌, ◌≤◌, List, [], ◌∷◌, ◌++◌, Option, Some, None, length, map, slice_index, IfOk, All, vec_len, vec_capacity};
+ghost use Rattle.std.specs.Prelude.{◌≡◌, ℕ, ◌+◌, ◌-◌, ◌^◌, ◌<◌, ◌≤◌, List, [], ◌∷◌, ◌++◌, Option, Some, None, length, map, take, drop, slice_index, IfOk, All, vec_len, vec_capacity};
 ghost use Rattle.srmt_base.specs.Args.{args_list};
 ghost use Rattle.srmt_base.specs.Budgets.{budget_of, with_budget};
-ghost use Rattle.mid_code.specs.Fits.{IsValue, open_count};
+ghost use Rattle.mid_code.specs.Valid.{IsValid};
+ghost use Rattle.mid_code.specs.Fits.{IsValue, IsWithin, open_count};
+ghost use Rattle.mid_code.specs.Meaning.{State, Comes};
 ghost use Rattle.mid_code.specs.Registers.{registers_list};
 ghost use Rattle.mid_code.specs.Machine.{activations, arguments, passed, moved_to, given, given_object, passed_close, resumed, register, with_top};
 ghost use Rattle.frames.specs.Kept.{with_machine, depths, fresh, pushed, IsPopped, newest_number};
 ghost use Rattle.frames.specs.Acts.{IsThere};
+ghost use Rattle.frames.specs.Alone.{IsWithinCode, state_at};
 
-use mid_code::Registers;
+use crate::alone::{Stand, run_code};
+use crate::entry::part_of;
+use mid_code::{MidProgram, Registers};
 use srmt_base::{Args, Budget, Budgets, Part};
 use std::alloc::{AllocError, Global};
 use std::marker::Model;
@@ -320,6 +325,30 @@ impl Frames {
         };
         self.top = caller;
     }
+
+    /// Goes on while the instructions of the newest activation need its registers, its place and the
+    /// turns of its part alone.
+    pub fn run_alone(&mut self, program: &MidProgram)
+        requires valid { IsValid program.now }
+        requires within { IsWithin program.now self.old.machine.top }
+        ensures comes { (s : State) → s.machine ≡ self.old.machine → Comes program.now s [] (record s { machine = self.new.machine }) }
+        ensures room { self.new.room ≡ self.old.room }
+    {
+        let part = part_of(program, self.top.function);
+        let left = self.budgets.of(part);
+        let stand = Stand {
+            place: self.top.place,
+            turns: left.turns,
+        };
+        let base = self.top.base as usize;
+        let end = run_row(program, self.top.function, &mut self.registers, base, stand);
+        self.top.place = end.place;
+        let left = Budget {
+            turns: end.turns,
+            depth: left.depth,
+        };
+        self.budgets = self.budgets.with(part, left);
+    }
 }
 
 /// Appends the registers of an activation that are named.
@@ -335,4 +364,24 @@ fn append_arguments(registers: &mut Vec<u64>, base: usize, args: &[u16])
             unreachable!();
         };
     }
+}
+
+/// Goes on so with the registers of an activation from a place of the row on.
+fn run_row(
+    program: &MidProgram,
+    number: u16,
+    registers: &mut Vec<u64>,
+    base: usize,
+    stand: Stand,
+) -> Stand
+    requires valid { IsValid program.now }
+    requires base { base ≤ vec_len registers.old }
+    requires within { IsWithinCode program.now number stand.place (drop base registers.old.items) }
+    ensures before { take base registers.new.items ≡ take base registers.old.items }
+    ensures count { length registers.new.items ≡ length registers.old.items }
+    ensures capacity { vec_capacity registers.new ≡ vec_capacity registers.old }
+    ensures comes { (s : State) → s.machine.top.function ≡ number → Comes program.now (state_at program.now s (drop base registers.old.items) stand) [] (state_at program.now s (drop base registers.new.items) result) }
+    ensures within { IsWithinCode program.now number result.place (drop base registers.new.items) }
+{
+    run_code(program, number, &mut registers[base..], stand)
 }

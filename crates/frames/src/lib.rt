@@ -8,6 +8,7 @@
 #![tactic(auto)]
 
 mod act;
+mod alone;
 mod entry;
 mod frames;
 mod input;

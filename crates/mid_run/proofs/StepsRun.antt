@@ -1,13 +1,17 @@
 -- Many steps of the machine.
-use Rattle.std.proofs.Common.{◌≡◌, ℕ, ◌<◌, List, [], ◌++◌, None, refl, sym, ap, ◌∙◌, append-nil}
+use Rattle.std.proofs.Common.{◌≡◌, ℕ, ◌+◌, ◌<◌, ◌≤◌, List, [], ◌++◌, Option, Some, None, refl, sym, ap, ◌∙◌, append-nil, arith}
 use Rattle.srmt_base.specs.declared.event.Event.{Event}
+use Rattle.srmt_base.specs.declared.trap.SourceEnd.{SourceEnd}
 use Rattle.mid_code.specs.declared.program.MidProgram.{MidProgram}
 use Rattle.mid_code.specs.Valid.{IsValid}
-use Rattle.mid_code.specs.Meaning.{Ended}
+use Rattle.mid_code.specs.Meaning.{State, Running, Ended, preceded, exec, Comes}
 use Rattle.mid_code.specs.Bounds.{left_to_go}
-use Rattle.mid_code.proofs.OneMeaning.{comes_on, finishes_on}
+use Rattle.mid_code.proofs.OneMeaning.{exec_on, comes_on, finishes_on}
+use Rattle.mid_code.proofs.RunsEnd.{made_and_left}
+use Rattle.mid_code.proofs.StatesFit.{fits_after}
 use Rattle.mid_code.proofs.StepsNear.{left_to_go-step}
 use Rattle.mid_run.specs.Progress.{Progress, At, Over, end_of, FitsIn, Steps, Runs}
+use Rattle.mid_run.specs.View.{progress_by}
 
 -- how many more steps there may be
 abbrev pub to_go : MidProgram → Progress → ℕ
@@ -17,6 +21,32 @@ to_go program (Over end) = 0
 pub runs_none : (program : MidProgram) (p : Progress) → Runs program p [] p
 runs_none program (At s) = (0, refl)
 runs_none program (Over end) = (refl, refl)
+
+-- some steps more, with no events
+comes_quietly : (program : MidProgram) (s mid next : State) (es : List Event) → Comes program s es mid → Comes program mid [] next → Comes program s es next
+comes_quietly program s mid next es first more = (
+  more.0 + first.0,
+  exec_on program first.0 more.0 s mid es first.1 ∙ ap (preceded es) more.1 ∙ ap (λ t. Running next t) (append-nil es),
+)
+
+pub runs_quietly : (program : MidProgram) (p q r : Progress) (es : List Event) → Runs program p es q → Runs program q [] r → Runs program p es r
+runs_quietly program (At s) (At mid) (At next) es runs more = comes_quietly program s mid next es runs more
+runs_quietly program (At s) (At mid) (Over end) es runs more =
+    (more.0 + runs.0, exec_on program runs.0 more.0 s mid es runs.1 ∙ ap (preceded es) more.1 ∙ ap (λ t. Ended end t) (append-nil es))
+runs_quietly program (At s) (Over end) (At next) es runs more = absurd more
+runs_quietly program (At s) (Over end) (Over again) es runs more = (runs.0, runs.1 ∙ ap (λ e. Ended e es) (sym more.0))
+runs_quietly program (Over end) (At mid) r es runs more = absurd runs
+runs_quietly program (Over end) (Over mid) (At next) es runs more = absurd more
+runs_quietly program (Over end) (Over mid) (Over again) es runs more = (more.0 ∙ runs.0, runs.1)
+
+-- they stay within the program, and leave no more than before
+pub quiet_fits : (program : MidProgram) (p q : Progress) → IsValid program → FitsIn program p → Runs program p [] q → FitsIn program q × (to_go program q ≤ to_go program p)
+quiet_fits program (At s) (At next) valid fits runs =
+    let left = made_and_left program valid runs.0 s next [] fits runs.1 in
+    (fits_after program valid runs.0 s next [] fits runs.1, omega (arith, left))
+quiet_fits program (At s) (Over end) valid fits runs = (tt, omega arith)
+quiet_fits program (Over end) (At next) valid fits runs = absurd runs
+quiet_fits program (Over end) (Over again) valid fits runs = (tt, omega arith)
 
 -- one step more
 pub runs_on : (program : MidProgram) (p q r : Progress) (es fs : List Event) → Runs program p es q → Steps program q fs r → Runs program p (es ++ fs) r
@@ -37,3 +67,9 @@ to_go-step program (At s) (At next) events valid fits e none = left_to_go-step p
 to_go-step program (At s) (Over end) events valid fits e none = absurd (cc)
 to_go-step program (Over end) (At next) events valid fits e none = absurd e
 to_go-step program (Over end) (Over again) events valid fits e none = absurd (cc)
+
+-- a run goes on with no events, or is over and stays so
+pub quiet_by : (program : MidProgram) (over : Option SourceEnd) (s next : State) → Comes program s [] next →
+    Runs program (progress_by over s) [] (progress_by over next)
+quiet_by program None s next comes = comes
+quiet_by program (Some end) s next comes = (refl, refl)

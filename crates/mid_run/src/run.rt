@@ -1,4 +1,4 @@
-ghost use Rattle.std.specs.Prelude.{◌≡◌, ◌≤◌, List, Some, OnOk, OnErr, IfOk};
+ghost use Rattle.std.specs.Prelude.{◌≡◌, ◌≤◌, List, [], Some, OnOk, OnErr, IfOk};
 ghost use Rattle.srmt_base.specs.declared.event.Event.{Event};
 ghost use Rattle.srmt_outside.specs.Count.{Rose};
 ghost use Rattle.srmt_outside.specs.Told.{Appends};
@@ -131,9 +131,21 @@ impl MidRun {
         ensures never_falls { O.faults outlet.old ≤ O.faults outlet.new }
     {
         loop {
+            self.advance(program);
             if let Some(end) = self.step(program, outlet)? {
                 return Ok(end);
             }
+        }
+    }
+
+    /// Makes steps while the instructions need the newest activation and its turns alone.
+    fn advance(&mut self, program: &MidProgram)
+        requires valid { IsValid program.now }
+        requires fits { FitsIn program.now self.old }
+        ensures runs { Runs program.now self.old [] self.new }
+    {
+        if self.over.is_none() {
+            self.running.frames.run_alone(program);
         }
     }
 }

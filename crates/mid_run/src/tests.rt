@@ -1,5 +1,5 @@
 ghost use Rattle.std.specs.Prelude.{◌≡◌, ◌^◌, ◌≤◌, IfOk};
-ghost use Rattle.mid_code.specs.Start.{static_cells};
+ghost use Rattle.srmt_base.specs.Statics.{static_cells};
 
 use crate::MidRun;
 use mid_code::{
@@ -11,7 +11,6 @@ use srmt_outside::MemOutlet;
 use std::alloc::{AllocError, Global};
 use std::process::Abort;
 
-mod binary;
 mod budgets;
 mod calls;
 mod control;

@@ -1,0 +1,75 @@
+-- What an activation does by its registers, its place and the turns of its part alone.
+use Rattle.std.specs.Prelude.{ℕ, ◌≡◌, ◌+◌, ◌<◌, ◌≤◌, Bool, true, false, List, Option, Some, None, Result, Ok, Err, IsTrue, slice_set}
+use Rattle.srmt_base.specs.declared.trap.Trap.{Trap}
+use Rattle.srmt_base.specs.Types.{IsPromoted}
+use Rattle.srmt_base.specs.Arith.{is_comparison}
+use Rattle.mid_code.specs.declared.program.MidProgram.{MidProgram}
+use Rattle.mid_code.specs.declared.mid.Mid.{Mid}
+use Rattle.mid_code.specs.declared.mid.Mid.TheVariants.{Const, Move, Arith, Conv, PtrAdd, PtrDiff, PtrCmp, GlobAddr, FunAddr, Load, Store, VLoad, VStore, Open, Close, Jump, JumpZ, JumpN, Turn, Call, CallPtr, Return, Put, Get, Exit}
+use Rattle.mid_code.specs.Fits.{IsWithin}
+use Rattle.mid_code.specs.Machine.{Opened, Local, Goes, local_of, with_local, act}
+use Rattle.mid_code.specs.Meaning.{State}
+use Rattle.frames.specs.declared.alone.Stand.{Stand}
+
+-- an activation with these registers and at this place, with as many turns left
+abbrev pub local_at : Local → List ℕ → Stand → Local
+local_at l registers stand =
+    record { at = record l.at { place = stand.place; registers = registers }; budget = record l.budget { turns = stand.turns } }
+
+-- the same as the newest activation of a run
+abbrev pub state_at : MidProgram → State → List ℕ → Stand → State
+state_at program s registers stand =
+    record s { machine = with_local program (local_at (local_of program s.machine) registers stand) s.machine }
+
+-- an instruction goes on from the one to the other, whatever else its activation has
+abbrev pub GoesBy : Mid → List ℕ → Stand → List ℕ → Stand → Type 0
+GoesBy mid before from after to =
+    (program : MidProgram) (line : ℕ) (l : Local) → act program mid line (local_at l before from) ≡ Goes (local_at l after to)
+
+-- what an instruction did: it has gone on, or nothing has changed
+abbrev pub HasStepped : Mid → List ℕ → Stand → List ℕ → Option Stand → Type 0
+HasStepped mid before from after (Some to) = GoesBy mid before from after to
+HasStepped mid before from after None = after ≡ before
+
+-- the registers that an instruction of these reads and writes are there
+abbrev pub Names : Mid → ℕ → Type 0
+Names (Const target value) count = target < count
+Names (Move target source) count = (target < count) × (source < count)
+Names (Arith op ty target left right) count = (target < count) × (left < count) × (right < count) × IsPromoted ty
+Names (Conv from to target source) count = (target < count) × (source < count)
+Names (PtrAdd target pointer index ty negated scale) count = (target < count) × (pointer < count) × (index < count)
+Names (PtrDiff target left right scale) count = (target < count) × (left < count) × (right < count) × (1 ≤ scale)
+Names (PtrCmp op target left right) count = (target < count) × (left < count) × (right < count) × IsTrue (is_comparison op)
+Names (GlobAddr target object) count = target < count
+Names (FunAddr target function) count = target < count
+Names (Load target pointer) count = Unit {0}
+Names (Store pointer source) count = Unit {0}
+Names (VLoad target pointer) count = Unit {0}
+Names (VStore pointer source) count = Unit {0}
+Names (Open target cells) count = Unit {0}
+Names (Close place) count = Unit {0}
+Names (Jump place) count = Unit {0}
+Names (JumpZ source place) count = source < count
+Names (JumpN source place) count = source < count
+Names Turn count = Unit {0}
+Names (Call target function args) count = Unit {0}
+Names (CallPtr target callee ty args) count = Unit {0}
+Names (Return source) count = Unit {0}
+Names (Put source) count = Unit {0}
+Names (Get target) count = Unit {0}
+Names (Exit source) count = Unit {0}
+
+-- an activation of a function stands within the program at a place with these registers
+abbrev pub IsWithinCode : MidProgram → ℕ → ℕ → List ℕ → Type 0
+IsWithinCode program function place registers =
+    (opened : List Opened) × IsWithin program (record { function = function; place = place; registers = registers; opened = opened; into = 0 })
+
+-- a result goes into the target register, or it is a trap and nothing changes
+abbrev pub IsSetIf : ℕ → Result ℕ Trap → List ℕ → Stand → List ℕ → Option Stand → Type 0
+IsSetIf target (Ok value) before from after to = (after ≡ slice_set before target value) × (to ≡ Some (record from { place = from.place + 1 }))
+IsSetIf target (Err trap) before from after to = (after ≡ before) × (to ≡ None)
+
+-- a jump is taken or not
+abbrev pub jumped : Bool → ℕ → Stand → Stand
+jumped true place stand = record stand { place = place }
+jumped false place stand = record stand { place = stand.place + 1 }
