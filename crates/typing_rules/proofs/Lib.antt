@@ -19,3 +19,6 @@ pub mod UnitsKeep
 pub mod ContentsFit
 pub mod SourceStatementViewLaws
 pub mod FunctionsFit
+pub mod LanguageTypesMade
+pub mod Sound
+pub mod LanguageNodesMade

@@ -37,4 +37,5 @@ pub mod OrderedDeclarations
 pub mod OrderedStatements
 pub mod OrderedUnits
 pub mod Exact
+pub mod LanguageTypes
 pub mod Laws
