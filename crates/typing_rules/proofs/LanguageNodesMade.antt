@@ -47,7 +47,7 @@ pub place_type_is : (p : Place) → PlaceHasTypes p → IsObjectType (place_type
 unfolding HasTypes
 place_type_is (place line type node) h = h.0
 
-if_has : {A : Type 0} (P : A → Type 0) (test : Test) (a b : A) → P a → P b → P (if test then a else b)
+pub if_has : {A : Type 0} (P : A → Type 0) (test : Test) (a b : A) → P a → P b → P (if test then a else b)
 if_has P true a b h k = h
 if_has P false a b h k = k
 

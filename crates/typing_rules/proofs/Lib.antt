@@ -22,3 +22,6 @@ pub mod FunctionsFit
 pub mod LanguageTypesMade
 pub mod Sound
 pub mod LanguageNodesMade
+pub mod LanguageKnown
+pub mod PartsSound
+pub mod CallsSound
