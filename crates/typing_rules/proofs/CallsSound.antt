@@ -12,11 +12,12 @@ use Rattle.typing_rules.specs.Holding.{Typing, Is, Such}
 use Rattle.typing_rules.specs.TypingParts.{IsTarget, IsAssigned, IsChanged, IsCast, IsUnvalued, IsSized, IsCalled, ArePassed, IsCounted, IsCallThrough, IsCall}
 use Rattle.typing_rules.specs.Laws.{Each}
 use Rattle.typing_rules.specs.LanguageTypes.{IsOfLanguage, IsObjectType, HasTypes, PlaceHasTypes, NodeHasTypes, AllHaveTypes}
+use Rattle.typing_rules.specs.LanguageTerms.{TermHas}
 use Rattle.typing_rules.proofs.Sound.{Sound, Any, sound_is, sound_such, sound_holds, sound_makes, sound_never, sound_bind}
 use Rattle.typing_rules.proofs.LanguageTypesMade.{target_is, result_is, parameters_are}
 use Rattle.typing_rules.proofs.LanguageNodesMade.{IsTyped, integer_is, void_is, type_is, place_type_is, value_at_has, converted_by_has, changed_has, assigned_has, cast_has}
 use Rattle.typing_rules.proofs.LanguageKnown.{Setting, At, at_type}
-use Rattle.typing_rules.proofs.PartsSound.{TermHas, sound_designated}
+use Rattle.typing_rules.proofs.PartsSound.{sound_designated}
 
 sound_such_as : {A : Type 0} {I : Known → Type 0} {P : A → Type 0} → Sound I P (Such P)
 sound_such_as = sound_such (λ a p. p)

@@ -8,6 +8,7 @@ use Rattle.typing_rules.specs.Known.{Known, Meaning, Scope, Local, local_at, fou
 use Rattle.typing_rules.specs.DeclaratorRules.{parameter_type}
 use Rattle.typing_rules.specs.Laws.{Each}
 use Rattle.typing_rules.specs.LanguageTypes.{IsOfLanguage, IsObjectType}
+use Rattle.typing_rules.specs.LanguageTerms.{type_at, IsMeaning, IsScope}
 use Rattle.typing_rules.proofs.Keeping.{each_append}
 use Rattle.typing_rules.proofs.LanguageNodesMade.{if_has}
 
@@ -22,21 +23,6 @@ pub record At (s : Setting) (k : Known) : Type 0 where
   pub scopes : k.scopes ≡ s.scopes
   pub types : map parameter_type k.locals ≡ s.types
   pub file_scope : k.file_scope ≡ s.file_scope
-
-abbrev pub type_at : List CType → ℕ → CType
-type_at [] n = void
-type_at (t ∷ ts) zero = t
-type_at (t ∷ ts) (suc n) = type_at ts n
-
--- where locals have these types, a name means a local of an object type, or something with a type of the language
-abbrev pub IsMeaning : List CType → Meaning → Type 0
-IsMeaning ts (known.local n) = IsObjectType (type_at ts n)
-IsMeaning ts (known.linked n type) = IsFalse (is_void type.type) × IsOfLanguage type.type
-IsMeaning ts (known.predeclared p) = Unit {0}
-IsMeaning ts (known.constant n) = Unit {0}
-
-abbrev pub IsScope : List CType → Scope → Type 0
-IsScope ts scope = Each (λ d. IsMeaning ts d.1) scope
 
 pub record IsGood (s : Setting) : Type 0 where
   pub scopes : Each (IsScope s.types) s.scopes

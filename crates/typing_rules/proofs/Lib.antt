@@ -25,3 +25,5 @@ pub mod LanguageNodesMade
 pub mod LanguageKnown
 pub mod PartsSound
 pub mod CallsSound
+pub mod DerivedTypes
+pub mod ParametersSound

@@ -20,27 +20,13 @@ use Rattle.typing_rules.specs.Holding.{Typing, Is, Such}
 use Rattle.typing_rules.specs.TypingParts.{IsDesignated, IsValue, IsWritten, IsMeant, IsNamed, AreCounted, IsText, IsIndexed, IsIndirect, IsMarked, IsAddress, IsOpposite, IsPromoted, IsNegative, IsComplement, IsComputed, AreTested, IsConjunction, IsDisjunction, IsChosen, IsTarget, IsAssigned, IsChanged, IsCast, IsUnvalued, IsSized, IsCalled, ArePassed, IsCounted, IsCallThrough, IsCall}
 use Rattle.typing_rules.specs.Laws.{Each}
 use Rattle.typing_rules.specs.LanguageTypes.{IsOfLanguage, IsObjectType, HasTypes, PlaceHasTypes, PlaceNodeHasTypes, NodeHasTypes, AllHaveTypes}
+use Rattle.typing_rules.specs.LanguageTerms.{DesignatedHas, IsDesignator, TermHas}
 use Rattle.typing_rules.proofs.Sound.{Sound, Any, sound_is, sound_such, sound_given, sound_holds, sound_asks, sound_makes, sound_never, sound_bind}
 use Rattle.typing_rules.proofs.LanguageTypesMade.{complete_is_there, complete_is_object, target_is, target_is_there, pointer_is, function_pointer_is, result_is, parameters_are}
 use Rattle.typing_rules.proofs.LanguageNodesMade.{IsTyped, value_is, place_is, integer_is, void_is, type_is, place_type_is, value_at_has, converted_has, converted_by_has, binary_has, negated_has, choice_has, changed_has, assigned_has, cast_has}
 use Rattle.typing_rules.proofs.LanguageKnown.{Setting, At, IsGood, IsMeaningIf, name_means, local_is, at_addressed, at_type}
 
 -- ---- terms
-
-abbrev pub DesignatedHas : Designated → Type 0
-DesignatedHas (entity n main) = Unit {0}
-DesignatedHas (predeclared p) = Unit {0}
-DesignatedHas (through v) = HasTypes v
-
-pub record IsDesignator (d : Designated) (type : CType) : Type 0 where
-  pub is_function : IsTrue (is_function type)
-  pub of_language : IsOfLanguage type
-  pub has : DesignatedHas d
-
-abbrev pub TermHas : Term → Type 0
-TermHas (object p) = PlaceHasTypes p
-TermHas (result v) = HasTypes v
-TermHas (designator line d type) = IsDesignator d type
 
 sound_such_as : {A : Type 0} {I : Known → Type 0} {P : A → Type 0} → Sound I P (Such P)
 sound_such_as = sound_such (λ a p. p)

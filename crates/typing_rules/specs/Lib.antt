@@ -39,3 +39,4 @@ pub mod OrderedUnits
 pub mod Exact
 pub mod LanguageTypes
 pub mod Laws
+pub mod LanguageTerms
