@@ -27,3 +27,4 @@ pub mod PartsSound
 pub mod CallsSound
 pub mod DerivedTypes
 pub mod ParametersSound
+pub mod TermsSound
