@@ -19,3 +19,12 @@ pub mod UnitsKeep
 pub mod ContentsFit
 pub mod SourceStatementViewLaws
 pub mod FunctionsFit
+pub mod LanguageTypesMade
+pub mod Sound
+pub mod LanguageNodesMade
+pub mod LanguageKnown
+pub mod PartsSound
+pub mod CallsSound
+pub mod DerivedTypes
+pub mod ParametersSound
+pub mod TermsSound

@@ -37,4 +37,6 @@ pub mod OrderedDeclarations
 pub mod OrderedStatements
 pub mod OrderedUnits
 pub mod Exact
+pub mod LanguageTypes
 pub mod Laws
+pub mod LanguageTerms

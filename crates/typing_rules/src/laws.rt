@@ -3,9 +3,14 @@
 ghost use Rattle.std.specs.Prelude.{◌≡◌, Ok, Err, Option, ◌↔◌};
 ghost use Rattle.c_typed.specs.Statements.{Program};
 ghost use Rattle.typing_rules.specs.SourceUnits.{Unit as SourceUnit};
+ghost use Rattle.typing_rules.specs.Source.{Expr};
+ghost use Rattle.typing_rules.specs.Known.{Known};
+ghost use Rattle.typing_rules.specs.Terms.{Term};
+ghost use Rattle.typing_rules.specs.Ordered.{term_of};
 ghost use Rattle.typing_rules.specs.OrderedUnits.{checked};
 ghost use Rattle.typing_rules.specs.TypingUnits.{Types};
 ghost use Rattle.typing_rules.specs.Laws.{ContentsFit, FunctionsFit};
+ghost use Rattle.typing_rules.specs.LanguageTerms.{KnowsTypes, TermHas};
 ghost use Rattle.typing_rules.specs.declared.refusal.TypeRefusal.{TypeRefusal as Refusal};
 
 /// The ordered function answers a program exactly where the relation has it.
@@ -31,4 +36,9 @@ pub fn contents_fit()
 /// Each function of a typed program has the type of a function, with as many parameters as it has.
 pub fn functions_fit()
     ensures { (main : SourceUnit) (binary : Option SourceUnit) (program : Program) → Types main binary program → FunctionsFit program }
+{}
+
+/// Where what is known has types of the language, so has each node of a typed expression.
+pub fn expressions_have_types()
+    ensures { (e : Expr) (term : Term) (before after : Known) → KnowsTypes before → term_of e before ≡ Ok (term, after) → TermHas term }
 {}
