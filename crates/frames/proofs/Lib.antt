@@ -3,3 +3,5 @@ pub mod Ready
 pub mod Gone
 pub mod StaticRows
 pub mod AloneRuns
+pub mod SoundStatics
+pub mod FewObjects

@@ -1,5 +1,5 @@
-ghost use Rattle.std.specs.Prelude.{◌≡◌, ◌<◌, ◌≤◌, All};
-ghost use Rattle.srmt_base.specs.Input.{next_byte};
+ghost use Rattle.std.specs.Prelude.{◌≡◌, ◌<◌, ◌≤◌, All, drop, length};
+ghost use Rattle.srmt_base.specs.Input.{next_byte as next_of};
 ghost use Rattle.mid_code.specs.Fits.{IsValue};
 
 use std::marker::Model;
@@ -33,16 +33,27 @@ impl Input {
 
     /// The next byte, or the number of EOF at the end.
     pub fn next(&mut self) -> u64
-        ensures value { result ≡ (next_byte self.old).value }
+        ensures value { result ≡ (next_of self.old).value }
         ensures small { IsValue result }
-        ensures rest { self.new ≡ (next_byte self.old).rest }
+        ensures rest { self.new ≡ (next_of self.old).rest }
     {
-        match self.bytes.get(self.at) {
-            Some(byte) => {
-                self.at += 1;
-                u64::from(*byte)
-            }
-            None => 4_294_967_295,
+        next_byte(&self.bytes, &mut self.at)
+    }
+}
+
+/// The next byte at a place of some bytes, or the number of EOF at their end.
+pub fn next_byte(bytes: &[u8], at: &mut usize) -> u64
+    requires { at.old ≤ length bytes.now }
+    ensures value { result ≡ (next_of (drop at.old bytes.now)).value }
+    ensures small { IsValue result }
+    ensures rest { drop at.new bytes.now ≡ (next_of (drop at.old bytes.now)).rest }
+    ensures within { at.new ≤ length bytes.now }
+{
+    match bytes.get(*at) {
+        Some(byte) => {
+            *at += 1;
+            u64::from(*byte)
         }
+        None => 4_294_967_295,
     }
 }

@@ -20,7 +20,7 @@ mod wants;
 pub use act::{Did, perform};
 pub use entry::{Refused, part_of};
 pub use frames::{Frames, Room};
-pub use input::Input;
+pub use input::{Input, next_byte};
 pub use memory::Memory;
 pub use running::{OPEN_OBJECTS, Running, next_line};
 pub use statics::begin_statics;

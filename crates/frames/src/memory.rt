@@ -6,6 +6,7 @@ ghost use Rattle.mid_code.specs.Fits.{IsValue};
 use cell_store::Store;
 use srmt_base::{Part, Trap};
 use std::marker::Model;
+use std::mem;
 
 /// The first number of an object of the binary part.
 const BINARY: u32 = 134_217_728;
@@ -87,6 +88,16 @@ impl Memory {
             Part::Protected => begin_in(&mut self.protected, part, cells),
             Part::Binary => begin_in(&mut self.binary, part, cells),
         }
+    }
+
+    /// Exchanges the objects of both parts for others.
+    pub fn exchange(&mut self, protected: &mut Store, binary: &mut Store)
+        ensures memory { self.new ≡ record { protected = protected.old; binary = binary.old } }
+        ensures protected { protected.new ≡ self.old.protected }
+        ensures binary { binary.new ≡ self.old.binary }
+    {
+        mem::swap(&mut self.protected, protected);
+        mem::swap(&mut self.binary, binary);
     }
 
     /// Ends the object of a number.

@@ -1,13 +1,10 @@
 -- One step of the machine is one step of the meaning.
-use Rattle.std.proofs.Common.{◌≡◌, ℕ, suc, ◌+◌, ◌<◌, ◌≤◌, ◌^◌, List, [], ◌∷◌, length, Option, Some, None, refl, sym, ap, ◌∙◌, subst, arith}
-use Rattle.std.specs.Prelude.{Result, Ok, Err, IfOk, All, sum_by}
-use Rattle.std.proofs.lemmas.List.Sums.{sum_by-cons}
+use Rattle.std.proofs.Common.{◌≡◌, ℕ, List, [], ◌∷◌, Option, Some, None, refl, sym, ap, ◌∙◌, subst}
+use Rattle.std.specs.Prelude.{Result, Ok, Err, IfOk}
 use Rattle.srmt_base.specs.declared.event.Event.{Event}
-use Rattle.srmt_base.specs.declared.part.Part.{Part}
 use Rattle.srmt_base.specs.declared.trap.Trap.{Trap}
 use Rattle.srmt_base.specs.declared.trap.SourceEnd.{SourceEnd}
 use Rattle.srmt_base.specs.declared.trap.SourceEnd.TheVariants.{Trap as TrapEnd}
-use Rattle.srmt_base.specs.Objects.{Object, Objects}
 use Rattle.mid_code.specs.declared.program.MidProgram.{MidProgram}
 use Rattle.mid_code.specs.declared.program.MidLine.{MidLine}
 use Rattle.mid_code.specs.Program.{line_at}
@@ -16,7 +13,7 @@ use Rattle.mid_code.specs.declared.registers.Registers.{Registers}
 use Rattle.mid_code.specs.declared.access.Access.{Access}
 use Rattle.mid_code.specs.Machine.{Activation, Machine, Does, Goes, Calls, Leaves, Traps, Reaches, local_of, act, arguments, waiting, enter, returned}
 use Rattle.mid_code.specs.Meaning.{State, Step, On, Ends, after_call, after_return, reach, step, step_by}
-use Rattle.mid_code.specs.Fits.{IsWithin, AreBelow, Fits, IsPart, IsMachine}
+use Rattle.mid_code.specs.Fits.{IsWithin, AreBelow, Fits, IsMachine}
 use Rattle.mid_code.proofs.InstructionsFit.{DoesFit, next_found, does-at, does_fits}
 use Rattle.mid_code.proofs.StatesFit.{fits_on}
 use Rattle.frames.specs.declared.running.Running.{Running}
@@ -26,6 +23,7 @@ use Rattle.frames.specs.declared.act.Did.{Did}
 use Rattle.frames.specs.declared.act.Did.TheVariants.{Went, Called, Left, Trapped, Wants}
 use Rattle.frames.specs.Acts.{HasDone}
 use Rattle.frames.specs.Reaching.{state_of, LeadsTo, HasRoom}
+use Rattle.frames.proofs.FewObjects.{few_in}
 use Rattle.mid_run.specs.Progress.{Progress, At, Over, FitsIn, Steps, end_of}
 use Rattle.mid_run.specs.declared.run.MidRun.TheInside.{Inside}
 use Rattle.mid_run.specs.View.{progress_of, progress_by}
@@ -33,16 +31,6 @@ use Rattle.mid_run.specs.View.{progress_of, progress_by}
 -- there is an instruction
 pub found : (program : MidProgram) (a : Activation) → IsWithin program a → line_at program a.function a.place ≡ None → ⊥
 found program a w none = let l = next_found program a w in absurd (cc)
-
-few_objects : (objects : List Object) → All (λ object. 1 ≤ length object.cells) objects → length objects ≤ sum_by (λ object. length object.cells) objects
-few_objects [] each = omega arith
-few_objects (object ∷ objects) each =
-    let rest = few_objects objects (λ k d h. each (suc k) d (omega arith)) in
-    let first = each 0 object (omega arith) in
-    rw sum_by-cons (omega (arith, rest, first))
-
-few_in : (part : Part) (s : Objects) → IsPart part s → length s.live ≤ 1048576
-few_in part s h = omega (arith, few_objects s.live h.cells, h.within, h.budget)
 
 pub has_room : (program : MidProgram) (r : Running) → Fits program (state_of r) → r.frames.room.objects ≡ 2097152 → HasRoom r
 has_room program r fits room = record {

@@ -4,7 +4,7 @@ use Rattle.srmt_base.specs.declared.event.Event.{Event}
 use Rattle.srmt_base.specs.declared.trap.SourceEnd.{SourceEnd}
 use Rattle.mid_code.specs.declared.program.MidProgram.{MidProgram}
 use Rattle.mid_code.specs.Valid.{IsValid}
-use Rattle.mid_code.specs.Meaning.{State, Running, Ended, preceded, exec, Comes}
+use Rattle.mid_code.specs.Meaning.{State, Running, Ended, preceded, Comes}
 use Rattle.mid_code.specs.Bounds.{left_to_go}
 use Rattle.mid_code.proofs.OneMeaning.{exec_on, comes_on, finishes_on}
 use Rattle.mid_code.proofs.RunsEnd.{made_and_left}

@@ -1,11 +1,11 @@
-use Rattle.std.proofs.Common.{◌≡◌, ◌+◌, ◌<◌, ◌^◌, [], refl, sym, ap, subst, arith}
+use Rattle.std.proofs.Common.{[], sym, subst}
 use Rattle.std.specs.Prelude.{OnErr}
 use Rattle.mid_code.specs.Meaning.{Step}
 use Rattle.frames.specs.Kept.{Kept, TakesResult}
 use Rattle.frames.specs.Reaching.{state_of, events_of, GivesEvent, HasRoom}
 use Rattle.frames.proofs.Ready.{ready_at}
 use Rattle.srmt_outside.proofs.Told.{Appends-nothing}
-use Rattle.mid_run.proofs.OneStep.{found, has_room, went, called, returned_on, stopped, wanted, led_by, result_taken}
+use Rattle.mid_run.proofs.OneStep.{has_room, went, called, returned_on, stopped, wanted, led_by, result_taken}
 use Rattle.mid_run.proofs.execute.execute.Goals as goal
 
 pub perform-requires : goal.perform-requires

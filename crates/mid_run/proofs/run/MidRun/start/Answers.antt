@@ -1,6 +1,6 @@
-use Rattle.std.proofs.Common.{sym, ap, ◌∙◌, arith}
-use Rattle.mid_run.proofs.StartRuns.{sound_statics, main_not_none, few_registers, started_is, fits_at_start}
-use Rattle.mid_run.specs.Progress.{At}
+use Rattle.std.proofs.Common.{sym, arith}
+use Rattle.frames.proofs.SoundStatics.{sound_statics}
+use Rattle.mid_run.proofs.StartRuns.{main_not_none, few_registers, started_is, fits_at_start}
 use Rattle.mid_run.proofs.run.MidRun.start.Goals as goal
 
 pub unreachable-requires : goal.unreachable-requires

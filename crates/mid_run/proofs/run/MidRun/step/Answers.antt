@@ -1,4 +1,3 @@
-use Rattle.std.proofs.Common.{sym}
 use Rattle.frames.specs.Reaching.{state_of}
 use Rattle.mid_run.proofs.OneStep.{stands_at, led}
 use Rattle.mid_run.proofs.run.MidRun.step.Goals as goal

@@ -1,0 +1,5 @@
+pub mod Binary
+pub mod Fits
+pub mod Bounds
+pub mod Laws
+pub mod View
