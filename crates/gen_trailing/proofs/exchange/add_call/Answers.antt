@@ -1,4 +1,4 @@
-use Rattle.std.proofs.Common.{◌≡◌, List, [], ◌∷◌, ◌++◌, Some, sym, ap, ◌∙◌, append_assoc}
+use Rattle.std.proofs.Common.{[], ◌∷◌, Some, sym, ap, ◌∙◌, append_assoc}
 use Rattle.mid_code.specs.declared.version.VersionOp.TheVariants.{Ack, Take}
 use Rattle.mid_code.specs.declared.version.Operands.TheVariants.{Passed}
 use Rattle.mid_code.specs.Registers.{registers_list}

@@ -3,7 +3,7 @@ use Rattle.std.specs.Prelude.{slice_index_or, slice_get}
 use Rattle.std.proofs.lemmas.Option.{slice_get-get_or}
 use Rattle.mid_code.specs.declared.class.Class.TheVariants.{Repeatable}
 use Rattle.mid_code.specs.declared.version.VersionLine.{VersionLine}
-use Rattle.mid_code.specs.Versions.{trailing, with_line, size_of, place_in, group_of, groups_from}
+use Rattle.mid_code.specs.Versions.{trailing, with_line, group_of, groups_from}
 use Rattle.mid_code.proofs.VersionGroups.{trailing_sized, length-group_of}
 use Rattle.version_code.specs.Lines.{Gathered}
 use Rattle.version_code.specs.Places.{moved_by}

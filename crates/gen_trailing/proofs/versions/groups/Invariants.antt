@@ -1,5 +1,4 @@
 use Rattle.std.proofs.Common.{◌≡◌, ◌+◌, ◌++◌, length, drop}
-use Rattle.std.specs.Prelude.{slice_index}
 use Rattle.mid_code.specs.Versions.{trailing, groups_from, place_in}
 use Rattle.version_code.specs.Places.{moved_by}
 use Rattle.gen_trailing.proofs.versions.groups.Given as goal
