@@ -1,5 +1,5 @@
 -- What the code does to its fields is a step of the binary functions.
-use Rattle.std.proofs.Common.{◌≡◌, ℕ, ◌+◌, ◌<◌, ◌≤◌, ◌^◌, List, [], ◌∷◌, length, Option, Some, None, Result, Ok, Err, refl, sym, ap, ◌∙◌, subst, Fits, w8, slice_index_or, arith}
+use Rattle.std.proofs.Common.{◌≡◌, ℕ, ◌+◌, ◌<◌, ◌≤◌, ◌^◌, List, [], ◌∷◌, length, Some, None, Result, Ok, Err, refl, sym, ap, ◌∙◌, subst, Fits, w8, slice_index_or, arith}
 use Rattle.std.specs.Prelude.{All, drop}
 use Rattle.std.proofs.lemmas.List.{get_or_default}
 use Rattle.std.proofs.lemmas.List.Elements.{All-drop}
@@ -8,8 +8,6 @@ use Rattle.srmt_base.specs.declared.part.Part.{Part}
 use Rattle.srmt_base.specs.declared.part.Part.TheVariants.{Protected, Binary}
 use Rattle.srmt_base.specs.declared.trap.Trap.{Trap}
 use Rattle.srmt_base.specs.declared.trap.SourceEnd.{SourceEnd}
-use Rattle.srmt_base.specs.declared.trap.SourceEnd.TheVariants.{Trap as TrapEnd}
-use Rattle.srmt_base.specs.Args.{args_list}
 use Rattle.srmt_base.specs.Objects.{Objects}
 use Rattle.srmt_base.specs.Memory.{Memory, read_of, write_of, begin_of, next_number}
 use Rattle.mid_code.specs.declared.program.MidProgram.{MidProgram}
@@ -18,17 +16,16 @@ use Rattle.mid_code.specs.declared.access.Access.{Access}
 use Rattle.mid_code.specs.declared.access.Access.TheVariants.{Loads, Stores, VolatileLoads, VolatileStores, Opens, Closes, Puts, Gets, Exits}
 use Rattle.mid_code.specs.Program.{line_at}
 use Rattle.mid_code.specs.Valid.{IsValid}
-use Rattle.mid_code.specs.Machine.{Activation, Local, Machine, Does, Goes, Reaches, activations, live_of, one_if, part_of_function, local_of, with_local, with_top, resumed, act}
+use Rattle.mid_code.specs.Machine.{Activation, Machine, Does, Goes, Reaches, activations, live_of, one_if, local_of, with_local, with_top, resumed, act}
 use Rattle.mid_code.specs.Meaning.{State, Step, On, Ends, Stuck, after_read, after_write, after_begin, own_part, reach}
-use Rattle.mid_code.specs.Fits.{IsWithin, open_count}
+use Rattle.mid_code.specs.Fits.{IsWithin}
 use Rattle.mid_code.proofs.Naming.{function_kept}
 use Rattle.mid_code.proofs.InstructionsFit.{next_found, does-at}
 use Rattle.frames.specs.Kept.{Kept, TakesResult, IsPopped, with_machine, depths}
 use Rattle.frames.specs.Acts.{CanEnter, IsReady, HasGone}
-use Rattle.frames.specs.Reaching.{LeadsTo}
 use Rattle.frames.proofs.Ready.{ready_at}
-use Rattle.binary_run.specs.Binary.{Next, Rests, Enters, Runs, Stopped, BinaryState, Answer, Went, Returned, Calls, Ended, After, after_step, enters, meant, runs, gives_back, step_next, binary_step}
-use Rattle.binary_run.specs.Fits.{MayEnter, AreBelow, FitsNext, FitsBinary, AreSmall, said}
+use Rattle.binary_run.specs.Binary.{Next, Enters, Runs, Stopped, BinaryState, Went, Ended, After, after_step, enters, meant, runs, gives_back, step_next, binary_step}
+use Rattle.binary_run.specs.Fits.{MayEnter, FitsNext, FitsBinary, AreSmall, said}
 use Rattle.binary_run.specs.Bounds.{IsNearer}
 use Rattle.binary_run.specs.declared.binary.BinaryStep.{BinaryStep}
 use Rattle.binary_run.specs.declared.binary.BinaryStep.TheVariants as code

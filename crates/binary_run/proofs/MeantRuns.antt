@@ -10,20 +10,19 @@ use Rattle.srmt_base.specs.declared.event.Event.{Event}
 use Rattle.srmt_base.specs.declared.part.Part.{Part}
 use Rattle.srmt_base.specs.declared.part.Part.TheVariants.{Protected, Binary}
 use Rattle.srmt_base.specs.declared.trap.Trap.{Trap}
-use Rattle.srmt_base.specs.declared.trap.SourceEnd.{SourceEnd}
-use Rattle.srmt_base.specs.Budgets.{budget_of, with_budget, with_result, after_entry, after_leave, leave_of, enter_of}
+use Rattle.srmt_base.specs.Budgets.{budget_of, with_result, after_entry, after_leave, enter_of}
 use Rattle.srmt_base.specs.Memory.{Memory}
 use Rattle.srmt_base.specs.Objects.{Objects}
 use Rattle.mid_code.specs.declared.program.MidFunction.{MidFunction}
 use Rattle.mid_code.specs.declared.program.MidProgram.{MidProgram}
 use Rattle.mid_code.specs.Program.{function_at}
-use Rattle.mid_code.specs.Machine.{Activation, Local, Machine, Does, Goes, Calls as CallsOne, Leaves, Traps, Reaches, Lost, activations, activation_of, passed, resumed, waiting, part_of_function, local_of, with_local, entry_by, entry_in, enter, returned_to, does}
-use Rattle.mid_code.specs.Meaning.{State, Step, On, Ends, Stuck, Run, Running, Ended as EndedRun, after_call, after_return, reach, step_by, step, preceded, then_run, exec}
-use Rattle.binary_run.specs.Binary.{Next, Runs, Enters, BinaryState, Answer, Went, Returned, Calls, Ended, After, state_with, after_step, enters, calls, returns, leaves, runs, step_next, binary_step}
-use Rattle.binary_run.specs.Fits.{FitsNext, FitsBinary, MayEnter}
+use Rattle.mid_code.specs.Machine.{Activation, Local, Machine, Does, Goes, Calls as CallsOne, Leaves, Traps, Reaches, Lost, activations, activation_of, passed, resumed, waiting, part_of_function, local_of, entry_by, entry_in, enter, returned_to, does}
+use Rattle.mid_code.specs.Meaning.{State, Step, On, Ends, Stuck, Run, Running, after_call, after_return, step_by, step, preceded, then_run, exec}
+use Rattle.binary_run.specs.Binary.{Runs, Enters, BinaryState, Answer, Went, Returned, Calls, Ended, After, state_with, after_step, calls, leaves, runs, step_next, binary_step}
+use Rattle.binary_run.specs.Fits.{FitsNext}
 use Rattle.binary_run.specs.Laws.{preceded_by, then_answer, then_on, runs_on, from_call, with_result_in, IsMeant, RunsAsMeant}
 use Rattle.binary_run.proofs.StackFits.{part_of}
-use Rattle.binary_run.proofs.SameInstruction.{into_other, local_other, does_other, machine_other, state_other, step_other, StaysIn, ChangesTop, Changes, does_same, reach_same}
+use Rattle.binary_run.proofs.SameInstruction.{into_other, local_other, does_other, state_other, step_other, StaysIn, ChangesTop, Changes, does_same, reach_same}
 
 -- the function that was entered, with what stands upon it
 data Above : Type 0 where

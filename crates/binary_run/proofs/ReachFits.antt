@@ -1,5 +1,5 @@
 -- What memory and the outside do for an instruction of a binary function leaves its stack and its objects standing, and brings it nearer to a turn.
-use Rattle.std.proofs.Common.{◌≡◌, ℕ, ◌+◌, ◌*◌, ◌<◌, ◌≤◌, List, [], ◌∷◌, length, Option, Some, None, Result, Ok, Err, Bool, true, false, refl, ap, arith}
+use Rattle.std.proofs.Common.{◌≡◌, ℕ, ◌+◌, ◌<◌, ◌≤◌, List, [], ◌∷◌, length, Option, Some, None, Result, Ok, Err, true, false, refl, arith}
 use Rattle.std.specs.Prelude.{All, IfOk, IfSome, ◌==◌, nat_le, if◌then◌else◌, find, drop, slice_index}
 use Rattle.std.proofs.lemmas.List.{length-map}
 use Rattle.std.proofs.lemmas.List.Elements.{All-head, All-tail, All-nil}
@@ -10,7 +10,7 @@ use Rattle.srmt_base.specs.declared.trap.Trap.{Trap}
 use Rattle.srmt_base.specs.declared.trap.Trap.TheVariants.{NullPointer, OutsideObject}
 use Rattle.srmt_base.specs.Input.{next_byte}
 use Rattle.srmt_base.specs.Objects.{Object, Objects, object_part, offset_part, pointer_to, live_at, access_in, access_of, if_passed, written_in, written, load_of, end_of, start_of}
-use Rattle.srmt_base.specs.Memory.{Memory, objects_of, with_objects, part_of, part_of_number, changed, write_of, read_of, begin_in, begin_of}
+use Rattle.srmt_base.specs.Memory.{Memory, objects_of, with_objects, part_of, part_of_number, changed, write_of, read_of, begin_in}
 use Rattle.mid_code.specs.declared.program.MidProgram.{MidProgram}
 use Rattle.mid_code.specs.declared.access.Access.{Access}
 use Rattle.mid_code.specs.declared.access.Access.TheVariants.{Loads, Stores, VolatileLoads, VolatileStores, Opens, Closes, Puts, Gets, Exits}

@@ -1,5 +1,5 @@
 -- What an instruction does hangs neither on the register for the result of its function, nor on the callers, nor on what is left to the other part.
-use Rattle.std.proofs.Common.{◌≡◌, ℕ, List, [], ◌∷◌, Option, Some, None, Result, Ok, Err, Bool, true, false, refl, ap, ◌∙◌}
+use Rattle.std.proofs.Common.{◌≡◌, ℕ, List, [], ◌∷◌, Option, Some, None, Result, Ok, Err, Bool, true, false, refl}
 use Rattle.std.specs.Prelude.{not, ◌==◌, if◌then◌else◌}
 use Rattle.srmt_base.specs.declared.budgets.Budget.{Budget}
 use Rattle.srmt_base.specs.declared.event.Event.{Event}
@@ -16,7 +16,7 @@ use Rattle.mid_code.specs.declared.mid.Mid.TheVariants.{Const, Move, Arith, Conv
 use Rattle.mid_code.specs.declared.access.Access.{Access}
 use Rattle.mid_code.specs.declared.access.Access.TheVariants.{Loads, Stores, VolatileLoads, VolatileStores, Opens, Closes, Puts, Gets, Exits}
 use Rattle.mid_code.specs.Program.{line_at}
-use Rattle.mid_code.specs.Machine.{Opened, Activation, Local, Machine, Does, Goes, Calls, Leaves, Traps, Reaches, Lost, register, arguments, goes, given, gives, moved_if, counts, is_callee, calls_value, closes, act, act_at, does}
+use Rattle.mid_code.specs.Machine.{Opened, Activation, Local, Machine, Does, Goes, Calls, Leaves, Traps, Reaches, Lost, register, arguments, goes, gives, moved_if, counts, is_callee, calls_value, closes, act, act_at, does}
 use Rattle.mid_code.specs.Meaning.{State, Step, On, Ends, Stuck, after_read, after_write, after_begin, own_part, reach}
 
 -- an activation whose result goes elsewhere

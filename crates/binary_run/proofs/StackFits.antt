@@ -1,7 +1,6 @@
 -- The stack of the binary functions stands within its program, as its newest activation goes on, calls, returns, or takes a value.
-use Rattle.std.proofs.Common.{◌≡◌, ℕ, ◌+◌, ◌-◌, ◌*◌, ◌<◌, ◌≤◌, List, [], ◌∷◌, length, Option, Some, None, refl, sym, ap, ◌∙◌, subst, arith}
+use Rattle.std.proofs.Common.{◌≡◌, ℕ, ◌+◌, ◌*◌, ◌<◌, ◌≤◌, List, [], ◌∷◌, length, refl, sym, ap, ◌∙◌, subst, arith}
 use Rattle.std.proofs.lemmas.List.{length-set}
-use Rattle.srmt_base.specs.declared.budgets.Budget.{Budget}
 use Rattle.srmt_base.specs.declared.budgets.Budgets.{Budgets}
 use Rattle.srmt_base.specs.declared.part.Part.{Part}
 use Rattle.srmt_base.specs.declared.part.Part.TheVariants.{Protected, Binary}
@@ -9,7 +8,7 @@ use Rattle.srmt_base.specs.Budgets.{budget_of, with_budget, leave_of}
 use Rattle.mid_code.specs.declared.program.MidProgram.{MidProgram}
 use Rattle.mid_code.specs.Valid.{IsValid}
 use Rattle.mid_code.specs.Machine.{Activation, Local, Machine, activations, live_of, one_if, part_of_function, local_of, with_local, with_top, passed, waiting, resumed}
-use Rattle.mid_code.specs.Bounds.{to_turn, alone_to_go}
+use Rattle.mid_code.specs.Bounds.{to_turn}
 use Rattle.mid_code.specs.Fits.{IsValue, IsWithin, IsLeft}
 use Rattle.mid_code.proofs.Naming.{whole}
 use Rattle.mid_code.proofs.StartFits.{main_part}
@@ -17,7 +16,7 @@ use Rattle.mid_code.proofs.MachineFits.{GoesOn, Spends, live_same, live_more, re
 use Rattle.frames.specs.Kept.{TakesResult}
 use Rattle.binary_run.specs.Binary.{stub_of}
 use Rattle.binary_run.specs.Fits.{IsStub, IsPlaced, MayStand, AreBelow, IsBinaryMachine}
-use Rattle.binary_run.specs.Bounds.{own_to_turn, all_to_turn, left_to_run}
+use Rattle.binary_run.specs.Bounds.{own_to_turn}
 
 -- the part of an activation's function
 abbrev pub part_of : MidProgram → Activation → Part

@@ -1,25 +1,24 @@
 -- The state of the binary functions stands within the program at the start, and after what is done from outside.
-use Rattle.std.proofs.Common.{◌≡◌, ℕ, ◌+◌, ◌<◌, ◌≤◌, ◌^◌, List, [], ◌∷◌, length, Option, Some, None, Result, Ok, Err, true, refl, sym, ap, ◌∙◌, subst, arith}
+use Rattle.std.proofs.Common.{◌≡◌, ℕ, ◌+◌, ◌<◌, ◌≤◌, ◌^◌, List, [], ◌∷◌, length, Result, Ok, Err, true, refl, sym, ap, subst, arith}
 use Rattle.std.specs.Prelude.{OnOk, OnErr}
 use Rattle.std.proofs.lemmas.List.{length-map}
 use Rattle.std.proofs.lemmas.List.Elements.{All-nil}
 use Rattle.srmt_base.specs.declared.limits.Limits.{Limits}
-use Rattle.srmt_base.specs.declared.part.Part.{Part}
 use Rattle.srmt_base.specs.declared.part.Part.TheVariants.{Protected, Binary}
 use Rattle.srmt_base.specs.declared.trap.Trap.{Trap}
 use Rattle.srmt_base.specs.Objects.{Object, Objects, access_of, if_passed, written_in, written, put_of}
 use Rattle.mid_code.specs.declared.program.MidProgram.{MidProgram}
 use Rattle.mid_code.specs.Valid.{IsValid}
 use Rattle.mid_code.specs.Start.{FitLimits}
-use Rattle.mid_code.specs.Machine.{Activation, Machine, activations, resumed, live_of, one_if, part_of_function}
+use Rattle.mid_code.specs.Machine.{Activation, activations, live_of, one_if}
 use Rattle.mid_code.specs.Fits.{IsValue, IsPart, open_count}
 use Rattle.mid_code.proofs.Naming.{whole}
 use Rattle.mid_code.proofs.PartsKept.{written_part}
 use Rattle.mid_code.proofs.MachineFits.{live_more}
 use Rattle.mid_code.proofs.StartFits.{main_part, fits_started as run_started}
 use Rattle.frames.specs.Kept.{TakesResult}
-use Rattle.binary_run.specs.Binary.{Next, Rests, Enters, Runs, Stopped, BinaryState, stub_of, started_binary, gives_back}
-use Rattle.binary_run.specs.Fits.{IsPlaced, AreBelow, IsBinaryMachine, MayEnter, FitsNext, FitsBinary}
+use Rattle.binary_run.specs.Binary.{Rests, Enters, BinaryState, stub_of, started_binary, gives_back}
+use Rattle.binary_run.specs.Fits.{IsPlaced, AreBelow, MayEnter, FitsNext, FitsBinary}
 use Rattle.binary_run.proofs.StackFits.{part_of, given_kept, caller_binary, few_live}
 
 pub fits_started : (program : MidProgram) (limits : Limits) → IsValid program → FitLimits program limits → FitsBinary program (started_binary program limits)

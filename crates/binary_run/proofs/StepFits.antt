@@ -1,23 +1,23 @@
 -- What a step of the binary functions comes to stands within the program, and is nearer to the end. There is a step where one is due.
-use Rattle.std.proofs.Common.{◌≡◌, ◌≢◌, ℕ, ◌+◌, ◌-◌, ◌*◌, ◌<◌, ◌≤◌, List, [], ◌∷◌, length, Option, Some, None, refl, sym, ap, ◌∙◌, subst, arith}
+use Rattle.std.proofs.Common.{◌≡◌, ℕ, ◌+◌, ◌*◌, ◌<◌, ◌≤◌, List, [], ◌∷◌, length, Option, Some, None, refl, sym, ap, ◌∙◌, subst, arith}
 use Rattle.std.specs.Prelude.{All, slice_get}
 use Rattle.srmt_base.specs.declared.part.Part.{Part}
 use Rattle.srmt_base.specs.declared.part.Part.TheVariants.{Protected, Binary}
-use Rattle.srmt_base.specs.Budgets.{budget_of, with_budget, leave_of}
+use Rattle.srmt_base.specs.Budgets.{budget_of, leave_of}
 use Rattle.srmt_base.specs.Objects.{Objects}
 use Rattle.mid_code.specs.declared.program.FunType.{FunType}
 use Rattle.mid_code.specs.declared.program.MidFunction.{MidFunction}
 use Rattle.mid_code.specs.declared.program.MidProgram.{MidProgram}
 use Rattle.mid_code.specs.Program.{function_at}
 use Rattle.mid_code.specs.Valid.{IsValid}
-use Rattle.mid_code.specs.Machine.{Activation, Local, Machine, Does, Goes, Calls as CallsOne, Leaves, Traps, Reaches, Lost, Entry, Entered, Refused, activations, activation_of, passed, resumed, waiting, live_of, local_of, with_local, part_of_function, enter, returned_to, does}
+use Rattle.mid_code.specs.Machine.{Activation, Local, Machine, Does, Goes, Calls as CallsOne, Leaves, Traps, Reaches, Lost, activations, activation_of, passed, resumed, waiting, live_of, local_of, part_of_function, enter, returned_to, does}
 use Rattle.mid_code.specs.Meaning.{State, Step, On, Ends, Stuck, after_call, reach}
 use Rattle.mid_code.specs.Bounds.{to_turn, alone_to_go, Nears}
-use Rattle.mid_code.specs.Fits.{IsValue, IsWithin, open_count}
+use Rattle.mid_code.specs.Fits.{IsValue, open_count}
 use Rattle.mid_code.proofs.Naming.{function_kept}
-use Rattle.mid_code.proofs.MachineFits.{GoesOn, Spends, enter_spends, entry_cases, begins, live_same, live_more}
+use Rattle.mid_code.proofs.MachineFits.{GoesOn, Spends, enter_spends, entry_cases, begins, live_more}
 use Rattle.mid_code.proofs.InstructionsFit.{DoesFit, Waits, few_to_turn, does_fits}
-use Rattle.binary_run.specs.Binary.{Next, Rests, Enters, Runs, Stopped, BinaryState, Answer, Went, Returned, Calls, Ended, After, stub_of, state_with, answers, after_step, enters, calls, returns, leaves, runs, step_next, binary_step}
+use Rattle.binary_run.specs.Binary.{Next, Rests, Enters, Runs, Stopped, BinaryState, Answer, Went, Returned, Calls, Ended, After, stub_of, state_with, after_step, enters, calls, returns, leaves, runs, step_next, binary_step}
 use Rattle.binary_run.specs.Fits.{MayEnter, AreBelow, IsBinaryMachine, FitsNext, FitsBinary, IsDue}
 use Rattle.binary_run.specs.Bounds.{own_to_turn, all_to_turn, left_to_run}
 use Rattle.binary_run.proofs.StackFits.{part_of, same_part, has_caller, top_within, with_own, local_kept, called_kept, stub_kept, entered_kept, returned_kept, own_turn, stub_turn}

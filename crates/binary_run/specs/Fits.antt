@@ -2,10 +2,13 @@
 --
 -- A stub is no activation within the program, since it has one register and not those of its function. So the stack is
 -- told by parts: a function of the main file stands as a stub, and a binary one within the program.
-use Rattle.std.specs.Prelude.{◌≡◌, ℕ, ◌<◌, ◌≤◌, List, [], ◌∷◌, length, Some, All, slice_get}
+use Rattle.std.specs.Prelude.{◌≡◌, ℕ, ◌<◌, ◌≤◌, List, [], ◌∷◌, length, Option, Some, All, slice_get}
 use Rattle.srmt_base.specs.declared.part.Part.{Part}
 use Rattle.srmt_base.specs.declared.part.Part.TheVariants.{Protected, Binary}
+use Rattle.srmt_base.specs.declared.event.Event.{Event}
 use Rattle.srmt_base.specs.Args.{args_list}
+use Rattle.srmt_base.specs.Objects.{Objects}
+use Rattle.srmt_outside.specs.Told.{Appends}
 use Rattle.mid_code.specs.declared.program.MidProgram.{MidProgram}
 use Rattle.mid_code.specs.declared.program.FunType.{FunType}
 use Rattle.mid_code.specs.declared.program.MidFunction.{MidFunction}
@@ -15,7 +18,7 @@ use Rattle.mid_code.specs.Fits.{IsValue, IsWithin, IsLeft, IsPart, open_count}
 use Rattle.frames.specs.Kept.{TakesResult}
 use Rattle.binary_run.specs.declared.binary.BinaryStep.{BinaryStep}
 use Rattle.binary_run.specs.declared.binary.BinaryStep.TheVariants as code
-use Rattle.binary_run.specs.Binary.{Next, Rests, Enters, Runs, Stopped, BinaryState, Answer, Went, Returned, Calls, Ended}
+use Rattle.binary_run.specs.Binary.{Next, Rests, Enters, Runs, Stopped, BinaryState, Answer, Went, Returned, Calls, Ended, After}
 
 -- a stub: a register, and no object
 pub record IsStub (a : Activation) : Type 0 where
@@ -89,6 +92,19 @@ said code.Went = Went
 said (code.Returned value) = Returned value
 said (code.Calls function args) = Calls function (args_list args)
 said (code.Ended end) = Ended end
+
+-- a step has come to these, with this answer of the code, and its events are told
+abbrev pub ComesTo : Option After → BinaryState → Objects → List ℕ → BinaryStep → Option (List Event) → Option (List Event) → Type 0
+ComesTo step state shared input answer before after =
+    (events : List Event)
+    × (step ≡ Some (record { state = state; shared = shared; input = input; events = events; answer = said answer }))
+    × Appends before after events
+
+-- what a step does to the machine alone has come to this, whatever is outside
+abbrev pub LeavesOutside : (Objects → List ℕ → Option After) → BinaryState → BinaryStep → Type 0
+LeavesOutside step state answer =
+    (shared : Objects) (input : List ℕ) →
+    step shared input ≡ Some (record { state = state; shared = shared; input = input; events = []; answer = said answer })
 
 -- what it answers holds numbers of 44 bits
 abbrev pub AreSmall : BinaryStep → Type 0

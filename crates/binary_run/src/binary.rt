@@ -1,8 +1,6 @@
-ghost use Rattle.std.specs.Prelude.{◌≡◌, ◌+◌, ◌≤◌, ◌<◌, ◌^◌, ◌↔◌, IsTrue, ℕ, List, [], length, drop, Some, Ok, Err, OnOk, OnErr, IfOk, IfErr};
-ghost use Rattle.srmt_base.specs.declared.event.Event.{Event};
+ghost use Rattle.std.specs.Prelude.{◌≡◌, ◌+◌, ◌≤◌, ◌<◌, ◌^◌, ◌↔◌, IsTrue, length, drop, Ok, Err, OnOk, OnErr, IfOk, IfErr};
 ghost use Rattle.srmt_base.specs.Args.{args_list};
-ghost use Rattle.srmt_base.specs.Objects.{Objects, load_of, put_of};
-ghost use Rattle.srmt_outside.specs.Told.{Appends};
+ghost use Rattle.srmt_base.specs.Objects.{load_of, put_of};
 ghost use Rattle.mid_code.specs.declared.program.MidProgram.{MidProgram as TheProgram};
 ghost use Rattle.mid_code.specs.Registers.{registers_list};
 ghost use Rattle.mid_code.specs.Valid.{IsValid};
@@ -13,7 +11,7 @@ ghost use Rattle.frames.specs.Kept.{TakesResult};
 ghost use Rattle.frames.specs.Acts.{CanCall, CanReach};
 ghost use Rattle.frames.specs.Reaching.{Counted};
 ghost use Rattle.binary_run.specs.Binary.{Rests, Enters, Runs, Stopped, started_binary, calls, enters, meant, runs, binary_step, gives_back};
-ghost use Rattle.binary_run.specs.Fits.{said, IsDue, MayEnter, FitsBinary, AreSmall, IsFollowed};
+ghost use Rattle.binary_run.specs.Fits.{ComesTo, LeavesOutside, IsDue, MayEnter, FitsBinary, AreSmall, IsFollowed};
 ghost use Rattle.binary_run.specs.Bounds.{left_to_run, IsNearer};
 
 use cell_store::Store;
@@ -140,7 +138,9 @@ impl BinaryRun {
         requires fits { FitsBinary program.now self.old }
         requires due { IsDue self.old.next }
         requires within { at.old ≤ length input.now }
-        ensures step { IfOk result (λ answer. (events : List Event) × (binary_step program.now self.old shared.old (drop at.old input.now) ≡ Some (record { state = self.new; shared = shared.new; input = drop at.new input.now; events = events; answer = said answer })) × Appends (O.events outlet.old) (O.events outlet.new) events) }
+        ensures step { IfOk result (λ answer.
+            ComesTo (binary_step program.now self.old shared.old (drop at.old input.now))
+            self.new shared.new (drop at.new input.now) answer (O.events outlet.old) (O.events outlet.new)) }
         ensures small { IfOk result AreSmall }
         ensures next { IfOk result (λ answer. IsFollowed answer self.new) }
         ensures nearer { IfOk result (λ answer. IsNearer answer (left_to_run program.now self.old.machine) (left_to_run program.now self.new.machine)) }
@@ -168,7 +168,7 @@ impl BinaryRun {
         requires valid { IsValid program.now }
         requires fits { FitsBinary program.now self.old }
         requires next { self.old.next ≡ Enters function (args_list args.now) }
-        ensures enters { (shared : Objects) → (input : List ℕ) → enters program.now function (args_list args.now) self.old shared input ≡ Some (record { state = self.new; shared = shared; input = input; events = []; answer = said result }) }
+        ensures enters { LeavesOutside (enters program.now function (args_list args.now) self.old) self.new result }
         ensures next { IsFollowed result self.new }
     {
         match self
@@ -207,7 +207,9 @@ impl BinaryRun {
         requires fits { FitsBinary program.now self.old }
         requires next { self.old.next ≡ Runs }
         requires within { at.old ≤ length input.now }
-        ensures step { IfOk result (λ answer. (events : List Event) × (binary_step program.now self.old shared.old (drop at.old input.now) ≡ Some (record { state = self.new; shared = shared.new; input = drop at.new input.now; events = events; answer = said answer })) × Appends (O.events outlet.old) (O.events outlet.new) events) }
+        ensures step { IfOk result (λ answer.
+            ComesTo (binary_step program.now self.old shared.old (drop at.old input.now))
+            self.new shared.new (drop at.new input.now) answer (O.events outlet.old) (O.events outlet.new)) }
         ensures next { IfOk result (λ answer. IsFollowed answer self.new) }
         ensures within { at.new ≤ length input.now }
         ensures kept { OnErr result ((self.new ≡ self.old) × (shared.new ≡ shared.old) × (at.new ≡ at.old)) }
@@ -245,7 +247,9 @@ impl BinaryRun {
         requires fits { FitsBinary program.now self.old }
         requires next { self.old.next ≡ Runs }
         requires can { CanCall program.now self.old.machine.top function (registers_list args.now) target }
-        ensures calls { (shared : Objects) → (input : List ℕ) → calls program.now (part_of_function program.now function) function (arguments self.old.machine.top args.now) target self.old shared input ≡ Some (record { state = self.new; shared = shared; input = input; events = []; answer = said result }) }
+        ensures calls { let b = self.old in LeavesOutside
+            (calls program.now (part_of_function program.now function) function (arguments b.machine.top args.now) target b)
+            self.new result }
         ensures next { IsFollowed result self.new }
     {
         match part_of(program, function) {
@@ -269,7 +273,7 @@ impl BinaryRun {
         requires fits { FitsBinary program.now self.old }
         requires next { self.old.next ≡ Runs }
         requires value { IsValue value }
-        ensures leaves { (shared : Objects) → (input : List ℕ) → runs program.now (Leaves value) self.old shared input ≡ Some (record { state = self.new; shared = shared; input = input; events = []; answer = said result }) }
+        ensures leaves { LeavesOutside (runs program.now (Leaves value) self.old) self.new result }
         ensures next { IsFollowed result self.new }
     {
         self.running.frames.leave(program, value);
@@ -300,7 +304,9 @@ impl BinaryRun {
         requires can { CanReach access self.old.machine.top }
         requires place { self.old.machine.top.place + 1 < 2 ^ 32 }
         requires within { at.old ≤ length input.now }
-        ensures meant { IfOk result (λ answer. (events : List Event) × (meant program.now (Reaches access line) self.old shared.old (drop at.old input.now) ≡ Some (record { state = self.new; shared = shared.new; input = drop at.new input.now; events = events; answer = said answer })) × Appends (O.events outlet.old) (O.events outlet.new) events) }
+        ensures meant { IfOk result (λ answer.
+            ComesTo (meant program.now (Reaches access line) self.old shared.old (drop at.old input.now))
+            self.new shared.new (drop at.new input.now) answer (O.events outlet.old) (O.events outlet.new)) }
         ensures next { IfOk result (λ answer. IsFollowed answer self.new) }
         ensures within { at.new ≤ length input.now }
         ensures kept { OnErr result ((self.new ≡ self.old) × (shared.new ≡ shared.old) × (at.new ≡ at.old)) }

@@ -1,6 +1,5 @@
-use Rattle.std.proofs.Common.{◌≡◌, length, sym, subst, arith}
+use Rattle.std.proofs.Common.{sym, subst, arith}
 use Rattle.srmt_base.specs.Args.{args_list}
-use Rattle.frames.specs.Acts.{CanEnter}
 use Rattle.binary_run.specs.Binary.{Next, Enters}
 use Rattle.binary_run.specs.Fits.{FitsNext, FitsBinary}
 use Rattle.binary_run.specs.View.{state_of_run}

@@ -1,5 +1,5 @@
-use Rattle.std.proofs.Common.{◌≡◌, ◌+◌, ◌<◌, ◌^◌, length, sym, ap, subst, arith}
-use Rattle.frames.specs.Kept.{Kept, depths}
+use Rattle.std.proofs.Common.{◌+◌, ◌<◌, ◌^◌, length, sym, ap, subst, arith}
+use Rattle.frames.specs.Kept.{depths}
 use Rattle.mid_code.specs.Machine.{activations}
 use Rattle.binary_run.specs.Binary.{BinaryState}
 use Rattle.binary_run.proofs.CodeSteps.{small_place, room_for_stub}

@@ -1,4 +1,4 @@
-use Rattle.std.proofs.Common.{◌≡◌, sym, subst}
+use Rattle.std.proofs.Common.{sym, subst}
 use Rattle.frames.specs.Kept.{TakesResult}
 use Rattle.binary_run.specs.Binary.{BinaryState}
 use Rattle.binary_run.proofs.CodeSteps.{takes_result}

@@ -1,6 +1,4 @@
-use Rattle.std.proofs.Common.{◌≡◌, sym, subst}
 use Rattle.frames.proofs.SoundStatics.{sound_statics}
-use Rattle.binary_run.specs.Fits.{FitsBinary}
 use Rattle.binary_run.proofs.StatesFit.{fits_started}
 use Rattle.binary_run.proofs.binary.BinaryRun.start.Goals as goal
 
