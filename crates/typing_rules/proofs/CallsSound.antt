@@ -29,11 +29,13 @@ sound_target (object p) h = sound_is h
 sound_target (result v) h = sound_is tt
 sound_target (designator line d type) h = sound_bind (sound_designated line d type h) (λ v p. sound_is tt)
 
-pub sound_assigned : {I : Known → Type 0} (line at : ℕ) (target : Target) (a : Written) → TargetHas target → IsTyped a → Sound I TermHas (IsAssigned line target a)
+pub sound_assigned : {I : Known → Type 0} (line at : ℕ) (target : Target) (a : Written) → TargetHas target → IsTyped a
+    → Sound I TermHas (IsAssigned line target a)
 sound_assigned line at target a h k =
     sound_bind sound_such_as (λ form u. sound_bind sound_such_as (λ p e. sound_is (assigned_has line form p a (subst PlaceIfHas e h) k)))
 
-pub sound_changed : {I : Known → Type 0} (line : ℕ) (c : Change) (target : Target) (a : Written) → TargetHas target → IsTyped a → Sound I TermHas (IsChanged line c target a)
+pub sound_changed : {I : Known → Type 0} (line : ℕ) (c : Change) (target : Target) (a : Written) → TargetHas target → IsTyped a
+    → Sound I TermHas (IsChanged line c target a)
 sound_changed line c target a h k =
     sound_bind sound_such_as (λ form u. sound_bind sound_such_as (λ p e. sound_is (changed_has line c form p a (subst PlaceIfHas e h) k)))
 
@@ -78,7 +80,8 @@ sound_passed (p ∷ ps) (a ∷ xs) l h =
 sound_counted_type : (s : Setting) (type : CType) → Sound (At s) Any (IsCounted type)
 sound_counted_type s type = sound_bind (sound_makes (at_type s type)) (λ u p. sound_holds)
 
-sound_call_through : (s : Setting) (line at : ℕ) (v : Value) (xs : List Written) → HasTypes v → Each IsTyped xs → Sound (At s) TermHas (IsCallThrough line at v xs)
+sound_call_through : (s : Setting) (line at : ℕ) (v : Value) (xs : List Written) → HasTypes v → Each IsTyped xs
+    → Sound (At s) TermHas (IsCallThrough line at v xs)
 unfolding HasTypes
 sound_call_through s line at v xs h k =
     sound_bind {P = IsOfLanguage} (sound_such (λ type p. subst IsOfLanguage (sym p.1) (target_is (type_of v) (type_is v h)))) (λ type l.
