@@ -1,26 +1,19 @@
 -- Assignments, casts, sizes and calls have types of the language.
-use Rattle.std.proofs.Common.{◌≡◌, ℕ, Bool as Test, true, false, List, [], ◌∷◌, sym, subst, Option, Some, None, inl, inr}
-use Rattle.std.specs.Prelude.{IsTrue}
-use Rattle.c_types.specs.Types.{CType, Qualified, integer, parameters_of, result_of, target_of}
-use Rattle.c_typed.specs.Typed as t
-use Rattle.c_typed.specs.Typed.{Place, Value, value, Values, no_values, first_value, type_of}
-use Rattle.typing_rules.specs.Known as known
+use Rattle.std.proofs.Common.{ℕ, true, false, List, [], ◌∷◌, sym, subst, Option, Some, None, inl, inr}
+use Rattle.c_types.specs.Types.{CType, Qualified, parameters_of}
+use Rattle.c_typed.specs.Typed.{Place, Value, Values, no_values, first_value, type_of}
 use Rattle.typing_rules.specs.Known.{Known, Predeclared, the_putchar, the_getchar, the_exit}
-use Rattle.typing_rules.specs.Terms.{Term, object, result, designator, Designated, entity, predeclared, through, Written, Target, Change, value_at, first_argument, predeclared_node}
+use Rattle.typing_rules.specs.Terms.{Term, object, result, designator, entity, predeclared, through, Written, Target, Change, value_at, first_argument, predeclared_node}
 use Rattle.typing_rules.specs.Constraints.{CastsTo}
-use Rattle.typing_rules.specs.Holding.{Typing, Is, Such}
 use Rattle.typing_rules.specs.TypingParts.{IsTarget, IsAssigned, IsChanged, IsCast, IsUnvalued, IsSized, IsCalled, ArePassed, IsCounted, IsCallThrough, IsCall}
 use Rattle.typing_rules.specs.Laws.{Each}
-use Rattle.typing_rules.specs.LanguageTypes.{IsOfLanguage, IsObjectType, HasTypes, PlaceHasTypes, NodeHasTypes, AllHaveTypes}
+use Rattle.typing_rules.specs.LanguageTypes.{IsOfLanguage, HasTypes, PlaceHasTypes, NodeHasTypes, AllHaveTypes}
 use Rattle.typing_rules.specs.LanguageTerms.{TermHas}
-use Rattle.typing_rules.proofs.Sound.{Sound, Any, sound_is, sound_such, sound_holds, sound_makes, sound_never, sound_bind}
+use Rattle.typing_rules.proofs.Sound.{Sound, Any, sound_is, sound_such_as, sound_such, sound_holds, sound_makes, sound_never, sound_bind}
 use Rattle.typing_rules.proofs.LanguageTypesMade.{target_is, result_is, parameters_are}
 use Rattle.typing_rules.proofs.LanguageNodesMade.{IsTyped, integer_is, void_is, type_is, place_type_is, value_at_has, converted_by_has, changed_has, assigned_has, cast_has}
 use Rattle.typing_rules.proofs.LanguageKnown.{Setting, At, at_type}
 use Rattle.typing_rules.proofs.PartsSound.{sound_designated}
-
-sound_such_as : {A : Type 0} {I : Known → Type 0} {P : A → Type 0} → Sound I P (Such P)
-sound_such_as = sound_such (λ a p. p)
 
 -- ---- assignments
 
@@ -36,11 +29,13 @@ sound_target (object p) h = sound_is h
 sound_target (result v) h = sound_is tt
 sound_target (designator line d type) h = sound_bind (sound_designated line d type h) (λ v p. sound_is tt)
 
-pub sound_assigned : {I : Known → Type 0} (line at : ℕ) (target : Target) (a : Written) → TargetHas target → IsTyped a → Sound I TermHas (IsAssigned line target a)
+pub sound_assigned : {I : Known → Type 0} (line at : ℕ) (target : Target) (a : Written) → TargetHas target → IsTyped a
+    → Sound I TermHas (IsAssigned line target a)
 sound_assigned line at target a h k =
     sound_bind sound_such_as (λ form u. sound_bind sound_such_as (λ p e. sound_is (assigned_has line form p a (subst PlaceIfHas e h) k)))
 
-pub sound_changed : {I : Known → Type 0} (line : ℕ) (c : Change) (target : Target) (a : Written) → TargetHas target → IsTyped a → Sound I TermHas (IsChanged line c target a)
+pub sound_changed : {I : Known → Type 0} (line : ℕ) (c : Change) (target : Target) (a : Written) → TargetHas target → IsTyped a
+    → Sound I TermHas (IsChanged line c target a)
 sound_changed line c target a h k =
     sound_bind sound_such_as (λ form u. sound_bind sound_such_as (λ p e. sound_is (changed_has line c form p a (subst PlaceIfHas e h) k)))
 
@@ -85,7 +80,8 @@ sound_passed (p ∷ ps) (a ∷ xs) l h =
 sound_counted_type : (s : Setting) (type : CType) → Sound (At s) Any (IsCounted type)
 sound_counted_type s type = sound_bind (sound_makes (at_type s type)) (λ u p. sound_holds)
 
-sound_call_through : (s : Setting) (line at : ℕ) (v : Value) (xs : List Written) → HasTypes v → Each IsTyped xs → Sound (At s) TermHas (IsCallThrough line at v xs)
+sound_call_through : (s : Setting) (line at : ℕ) (v : Value) (xs : List Written) → HasTypes v → Each IsTyped xs
+    → Sound (At s) TermHas (IsCallThrough line at v xs)
 unfolding HasTypes
 sound_call_through s line at v xs h k =
     sound_bind {P = IsOfLanguage} (sound_such (λ type p. subst IsOfLanguage (sym p.1) (target_is (type_of v) (type_is v h)))) (λ type l.

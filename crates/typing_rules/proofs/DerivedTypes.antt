@@ -1,15 +1,13 @@
 -- What specifiers and declarators make is a type of the language.
-use Rattle.std.proofs.Common.{◌≡◌, ℕ, ◌≤◌, Bool as Test, true, false, List, [], ◌∷◌, map, length, refl, sym, subst, Option, Some, None}
-use Rattle.std.specs.Prelude.{IsTrue, IsFalse, if◌then◌else◌}
+use Rattle.std.proofs.Common.{Bool as Test, true, false, List, [], ◌∷◌, map, sym, subst, Option, Some, None}
 use Rattle.std.proofs.lemmas.List.{length-map}
 use Rattle.c_types.specs.Types.{CType, Qualified, decayed}
 use Rattle.c_tree.specs.declared.specifier.SpecifierWord.{SpecifierWord}
 use Rattle.typing_rules.specs.Source.{Specifiers}
 use Rattle.typing_rules.specs.Known.{Known, Local}
-use Rattle.typing_rules.specs.Limits.{most_parameters}
 use Rattle.typing_rules.specs.SpecifierRules.{Specified, Naming, named_by, namings, name_alike}
 use Rattle.typing_rules.specs.DeclaratorRules.{Derivation, to_pointer, to_array, to_function, parameter_type}
-use Rattle.typing_rules.specs.Declarators.{Says, AreSpecified, IsLength, DerivesType, IsDerived, IsParameterType}
+use Rattle.typing_rules.specs.Declarators.{Says, AreSpecified, DerivesType, IsDerived, IsParameterType}
 use Rattle.typing_rules.specs.Laws.{Each}
 use Rattle.typing_rules.specs.LanguageTypes.{IsOfLanguage, IsLengthOfLanguage}
 use Rattle.typing_rules.proofs.PartsExact.{at_most}

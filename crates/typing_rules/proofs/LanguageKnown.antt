@@ -1,13 +1,12 @@
 -- What is known has types of the language: what names mean, and what keeps it.
-use Rattle.std.proofs.Common.{◌≡◌, ℕ, zero, suc, Bool as Test, true, false, List, [], ◌∷◌, ◌++◌, map, refl, ap, sym, subst, ◌∙◌, Option, Some, None}
-use Rattle.std.specs.Prelude.{IsTrue, IsFalse, slice_set, bytes_eq, if◌then◌else◌}
-use Rattle.c_types.specs.Types.{CType, void, is_void}
+use Rattle.std.proofs.Common.{◌≡◌, ℕ, zero, suc, List, [], ◌∷◌, ◌++◌, map, refl, ap, sym, subst, ◌∙◌, Option, Some, None}
+use Rattle.std.specs.Prelude.{slice_set, bytes_eq}
+use Rattle.c_types.specs.Types.{CType}
 use Rattle.typing_rules.specs.Source.{Bytes}
-use Rattle.typing_rules.specs.Known as known
 use Rattle.typing_rules.specs.Known.{Known, Meaning, Scope, Local, local_at, found_in, or_else, meaning_of, all_scopes, predeclared_scope, addressed, addressed_local, with_type, is_among}
 use Rattle.typing_rules.specs.DeclaratorRules.{parameter_type}
 use Rattle.typing_rules.specs.Laws.{Each}
-use Rattle.typing_rules.specs.LanguageTypes.{IsOfLanguage, IsObjectType}
+use Rattle.typing_rules.specs.LanguageTypes.{IsObjectType}
 use Rattle.typing_rules.specs.LanguageTerms.{type_at, IsMeaning, IsScope}
 use Rattle.typing_rules.proofs.Keeping.{each_append}
 use Rattle.typing_rules.proofs.LanguageNodesMade.{if_has}

@@ -1,6 +1,6 @@
 -- Nodes that are made of nodes with types of the language have such types.
-use Rattle.std.proofs.Common.{ℕ, suc, ◌≤◌, ◌<◌, Bool as Test, true, false, List, [], ◌∷◌, refl, Option, Some, None, arith, inl, inr, ◌⊎◌, ◌≡◌, sym, subst}
-use Rattle.std.specs.Prelude.{IsTrue, IsFalse, if◌then◌else◌, ◌==◌, ◌&&◌}
+use Rattle.std.proofs.Common.{ℕ, Bool as Test, true, false, List, [], ◌∷◌}
+use Rattle.std.specs.Prelude.{if◌then◌else◌, ◌==◌}
 use Rattle.srmt_base.specs.declared.ty.Ty.{Ty}
 use Rattle.srmt_base.specs.declared.op.Op.{Op}
 use Rattle.srmt_base.specs.Types.{ty_code}
@@ -11,11 +11,11 @@ use Rattle.c_types.specs.declared.form.ChoiceForm.{ChoiceForm}
 use Rattle.c_types.specs.declared.form.ChoiceForm.TheVariants as choice_form
 use Rattle.c_types.specs.declared.form.Conversion.{Conversion}
 use Rattle.c_types.specs.declared.form.Conversion.TheVariants as to
-use Rattle.c_types.specs.Types.{CType, void, integer, Qualified, same_type, is_array, is_void, is_integer, is_function, decayed, ty_of}
-use Rattle.c_types.specs.Rules.{binary_type, computed_type, choice_type}
+use Rattle.c_types.specs.Types.{CType, void, integer, Qualified, same_type, is_array, is_void, is_integer, decayed, ty_of}
+use Rattle.c_types.specs.Rules.{computed_type, choice_type}
 use Rattle.c_typed.specs.Typed as typed
 use Rattle.c_typed.specs.Typed.{Place, place, Value, value, ValueNode, Values, no_values, first_value, type_of, start_of, place_type}
-use Rattle.typing_rules.specs.Terms.{Term, object, result, designator, Designated, entity, predeclared, through, Written, written_type, value_at, converted, promoted_value, repointed, null_of, converted_by, pointers_node, binary_node, binary_value, is_difference, negated_value, branch, first_branch, second_branch, choice_value, Change, change_node, changed_value, assigned_value, cast_value, values_of}
+use Rattle.typing_rules.specs.Terms.{Written, written_type, value_at, converted, promoted_value, repointed, null_of, converted_by, pointers_node, binary_node, binary_value, negated_value, branch, first_branch, second_branch, choice_value, Change, change_node, changed_value, assigned_value, cast_value, values_of}
 use Rattle.typing_rules.specs.Laws.{Each}
 use Rattle.typing_rules.specs.LanguageTypes.{IsOfLanguage, IsObjectType, HasTypes, PlaceHasTypes, PlaceNodeHasTypes, NodeHasTypes, AllHaveTypes}
 use Rattle.typing_rules.proofs.LanguageTypesMade.{decayed_is}
@@ -111,9 +111,10 @@ computed_is form.NullAndPointer a b h k = integer_is _
 pub binary_has : (line : ℕ) (op : Op) (at : ℕ) (f : BinaryForm) (a b : Written) → IsTyped a → IsTyped b → HasTypes (binary_value line op at f a b)
 unfolding HasTypes
 binary_has line op at f a b h k = (
-    if_has IsOfLanguage (is_comparison op) (integer _) (computed_type f (written_type a) (written_type b)) (integer_is _)
-    (computed_is f (written_type a) (written_type b) (type_is a.value h) (type_is b.value k)),
-    binary_node_has op at f a b h k)
+  if_has IsOfLanguage (is_comparison op) (integer _) (computed_type f (written_type a) (written_type b)) (integer_is _)
+      (computed_is f (written_type a) (written_type b) (type_is a.value h) (type_is b.value k)),
+  binary_node_has op at f a b h k,
+)
 
 pub negated_has : (line : ℕ) (w : Written) → IsTyped w → HasTypes (negated_value line w)
 unfolding HasTypes

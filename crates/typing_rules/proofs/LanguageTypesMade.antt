@@ -1,5 +1,5 @@
 -- Types that are made of types of the language are of the language.
-use Rattle.std.proofs.Common.{◌≡◌, ℕ, suc, ◌≤◌, Bool as Test, true, false, List, [], ◌∷◌, map, length, refl, sym, subst, Option, Some, None, arith}
+use Rattle.std.proofs.Common.{◌≡◌, suc, ◌≤◌, List, [], ◌∷◌, length, refl, arith}
 use Rattle.std.specs.Prelude.{IsTrue, IsFalse}
 use Rattle.c_types.specs.declared.qualifiers.Qualifiers.{Qualifiers}
 use Rattle.c_types.specs.Types.{CType, void, integer, pointer, array, returning, taking, Qualified, is_void, is_function, is_array, is_pointer, is_complete, is_scalar, target_of, decayed, result_of, parameters_of, function_of}
@@ -118,6 +118,10 @@ pub function_of_is : (ps : List CType) (r : Qualified) → Each IsParameter ps �
     → IsFalse (is_array r.type) → IsFalse (is_function r.type) → IsOfLanguage r.type → IsOfLanguage (function_of ps r)
 unfolding IsOfLanguage
 function_of_is [] r h n a f l = (a, f, l)
-function_of_is (p ∷ ps) r h n a f l =
-    (h.0.is_scalar, h.0.of_language, function_of_is_one ps r, function_of_is ps r h.1 (omega (arith, n)) a f l,
-    rw (parameters_many ps r) n)
+function_of_is (p ∷ ps) r h n a f l = (
+  h.0.is_scalar,
+  h.0.of_language,
+  function_of_is_one ps r,
+  function_of_is ps r h.1 (omega (arith, n)) a f l,
+  rw (parameters_many ps r) n,
+)

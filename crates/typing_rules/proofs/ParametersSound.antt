@@ -2,7 +2,7 @@
 use Rattle.std.proofs.Common.{◌≡◌, ℕ, zero, suc, Bool as Test, true, false, List, [], ◌∷◌, ◌++◌, map, length, drop, take, refl, ap, sym, subst, ◌∙◌, Option, Some, None}
 use Rattle.std.proofs.lemmas.List.{length-map, map-append, append-nil, append_assoc}
 use Rattle.c_types.specs.Types.{CType, Qualified}
-use Rattle.typing_rules.specs.Source.{Bytes, Named, Specifiers, Declarator, Parameters}
+use Rattle.typing_rules.specs.Source.{Named, Specifiers, Declarator, Parameters}
 use Rattle.typing_rules.specs.Known as known
 use Rattle.typing_rules.specs.Known.{Known, Meaning, Scope, Local, with_meaning, outer_scopes}
 use Rattle.typing_rules.specs.DeclaratorRules.{Derivation, name_of, parameter_type, parameter_local}
@@ -66,10 +66,18 @@ sound_among s good f = record {
         scopes = (g.good, scopes_more s.types g.added s.scopes good.scopes);
         file_scope = scope_more s.types g.added s.file_scope good.file_scope;
       } in
-      let p = (f inner is_good).sound x k l h (record { scopes = g.scopes; types = g.types; file_scope = g.file_scope }) in
-      (p.0, record {
-        scope = g.scope; added = g.added; scopes = p.1.scopes; types = p.1.types; file_scope = p.1.file_scope; are = g.are; good = g.good;
-      });
+      let p = (f inner is_good).sound x k l h (record { scopes = g.scopes; types = g.types; file_scope = g.file_scope }) in (
+        p.0,
+        record {
+          scope = g.scope;
+          added = g.added;
+          scopes = p.1.scopes;
+          types = p.1.types;
+          file_scope = p.1.file_scope;
+          are = g.are;
+          good = g.good;
+        },
+      );
 }
 
 -- a name of a local that is about to be
@@ -83,7 +91,10 @@ record Named_as (n : ℕ) (scope : Scope) (outer : List Scope) (k l : Known) : T
 named_as : (name : Option Named) (n : ℕ) (u : Unit {0}) (k l : Known) (scope : Scope) (outer : List Scope) → k.scopes ≡ scope ∷ outer
     → IsNamedLocal name n u k l → Named_as n scope outer k l
 named_as None n u k l scope outer e h = record {
-  inner = scope; locals = ap (λ m. m.locals) h.1; file_scope = ap (λ m. m.file_scope) h.1; scopes = ap (λ m. m.scopes) h.1 ∙ e;
+  inner = scope;
+  locals = ap (λ m. m.locals) h.1;
+  file_scope = ap (λ m. m.file_scope) h.1;
+  scopes = ap (λ m. m.scopes) h.1 ∙ e;
   good = λ ts a b. a;
 }
 named_as (Some name) n u k l scope outer e h =
@@ -112,11 +123,11 @@ sound_parameter s sp base d ds b g = record { sound = λ x k l h among. (tt, go 
         let own = parameter_local d sp.line type in
         let locals = named.locals ∙ ap (λ m. m.locals) start in
         let counted : n ≡ length (s.types ++ among.added) =
-            h2.first.0 ∙ ap (λ m. length m.locals) h.first.1 ∙ sym (length-map k.locals parameter_type) ∙ ap length among.types in
+        h2.first.0 ∙ ap (λ m. length m.locals) h.first.1 ∙ sym (length-map k.locals parameter_type) ∙ ap length among.types in
         let all = s.types ++ among.added in
         let last : IsObjectType (type_at (all ++ type.type ∷ []) n) =
-            subst IsObjectType (sym (ap (type_at (all ++ type.type ∷ [])) counted ∙ type_of_last all type.type))
-            (scalar_is_object type.type p.is_scalar p.of_language) in
+        subst IsObjectType (sym (ap (type_at (all ++ type.type ∷ [])) counted ∙ type_of_last all type.type))
+        (scalar_is_object type.type p.is_scalar p.of_language) in
         let same = append_assoc s.types among.added (type.type ∷ []) in
         record {
           scope = named.inner;
@@ -169,11 +180,13 @@ sound_parameter_list s ps r = sound_either (sound_is tt) (record {
       let h5 = h4.second in
       let opened = h2.first ∙ ap known.opened h.first.1 in
       let p = r.sound h3.of h2.between h3.between h3.first (record {
-        scope = []; added = [];
+        scope = [];
+        added = [];
         scopes = ap (λ m. m.scopes) opened ∙ ap (λ scopes. [] ∷ scopes) at.scopes;
         types = ap (λ m. map parameter_type m.locals) opened ∙ at.types ∙ sym (append-nil s.types);
         file_scope = ap (λ m. m.file_scope) opened ∙ at.file_scope;
-        are = tt; good = tt;
+        are = tt;
+        good = tt;
       }) in
       let among = p.1 in
       let m = h3.between in
@@ -181,7 +194,7 @@ sound_parameter_list s ps r = sound_either (sound_is tt) (record {
       let asked = h4.first.1 in
       let after = h5.second.1 ∙ h5.first in (
         subst (Each IsOwn) (sym (h5.second.0 ∙ h4.first.0 ∙ ap (λ n. drop n m.locals) count))
-        (dropped_are s.types m.locals among.added among.types among.are),
+            (dropped_are s.types m.locals among.added among.types among.are),
         record {
           scopes = ap (λ z. z.scopes) after ∙ ap (λ z. outer_scopes z.scopes) asked ∙ ap outer_scopes among.scopes;
           types = ap (λ z. map parameter_type z.locals) after ∙ ap (λ z. map parameter_type (take h.of z.locals)) asked

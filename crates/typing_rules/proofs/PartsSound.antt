@@ -1,12 +1,12 @@
 -- What expressions are made of has types of the language.
-use Rattle.std.proofs.Common.{◌≡◌, ℕ, suc, ◌≤◌, Bool as Test, true, false, List, [], ◌∷◌, length, refl, sym, subst, Option, Some, None, inl, inr, arith}
+use Rattle.std.proofs.Common.{ℕ, suc, ◌≤◌, Bool as Test, true, false, length, refl, sym, subst, Option, Some, None, inl, inr, arith}
 use Rattle.std.specs.Prelude.{IsTrue, IsFalse}
 use Rattle.srmt_base.specs.declared.op.Op.{Op}
 use Rattle.c_types.specs.declared.qualifiers.Qualifiers.{Qualifiers}
 use Rattle.c_types.specs.declared.form.BinaryForm.{BinaryForm}
 use Rattle.c_types.specs.declared.form.BinaryForm.TheVariants as form
 use Rattle.c_types.specs.declared.form.ChoiceForm.{ChoiceForm}
-use Rattle.c_types.specs.Types.{CType, void, integer, pointer, array, returning, taking, Qualified, plain, is_void, is_function, is_pointer, is_integer, is_complete_pointer, point_to_one, with_both, parameters_of, result_of, pointer_to, target_of}
+use Rattle.c_types.specs.Types.{CType, void, integer, pointer, array, returning, taking, plain, is_void, is_function, is_pointer, is_integer, is_complete_pointer, point_to_one, target_of}
 use Rattle.c_types.specs.Rules.{Operand, choice_type, element_of}
 use Rattle.c_typed.specs.Typed as t
 use Rattle.c_typed.specs.Typed.{Place, place, PlaceNode, Value, value, Values, no_values, first_value, type_of, place_type}
@@ -14,22 +14,18 @@ use Rattle.typing_rules.specs.Source.{Bytes}
 use Rattle.typing_rules.specs.Known as known
 use Rattle.typing_rules.specs.Known.{Known, Meaning, Predeclared, the_putchar, the_getchar, the_exit, type_of_predeclared}
 use Rattle.typing_rules.specs.Limits.{most_cells}
-use Rattle.typing_rules.specs.Terms.{Term, object, result, designator, Designated, entity, predeclared, through, Written, written_type, operand_of, element_place, Target, Change, first_argument, predeclared_node, text_type, linked_term, pointed_term}
-use Rattle.typing_rules.specs.Constraints.{Branches, Indexes, CastsTo}
-use Rattle.typing_rules.specs.Holding.{Typing, Is, Such}
-use Rattle.typing_rules.specs.TypingParts.{IsDesignated, IsValue, IsWritten, IsMeant, IsNamed, AreCounted, IsText, IsIndexed, IsIndirect, IsMarked, IsAddress, IsOpposite, IsPromoted, IsNegative, IsComplement, IsComputed, AreTested, IsConjunction, IsDisjunction, IsChosen, IsTarget, IsAssigned, IsChanged, IsCast, IsUnvalued, IsSized, IsCalled, ArePassed, IsCounted, IsCallThrough, IsCall}
-use Rattle.typing_rules.specs.Laws.{Each}
-use Rattle.typing_rules.specs.LanguageTypes.{IsOfLanguage, IsObjectType, HasTypes, PlaceHasTypes, PlaceNodeHasTypes, NodeHasTypes, AllHaveTypes}
-use Rattle.typing_rules.specs.LanguageTerms.{DesignatedHas, IsDesignator, TermHas}
-use Rattle.typing_rules.proofs.Sound.{Sound, Any, sound_is, sound_such, sound_given, sound_holds, sound_asks, sound_makes, sound_never, sound_bind}
-use Rattle.typing_rules.proofs.LanguageTypesMade.{complete_is_there, complete_is_object, target_is, target_is_there, pointer_is, function_pointer_is, result_is, parameters_are}
-use Rattle.typing_rules.proofs.LanguageNodesMade.{IsTyped, value_is, place_is, integer_is, void_is, type_is, place_type_is, value_at_has, converted_has, converted_by_has, binary_has, negated_has, choice_has, changed_has, assigned_has, cast_has}
-use Rattle.typing_rules.proofs.LanguageKnown.{Setting, At, IsGood, IsMeaningIf, name_means, local_is, at_addressed, at_type}
+use Rattle.typing_rules.specs.Terms.{Term, object, result, designator, Designated, entity, predeclared, through, Written, written_type, operand_of, element_place, text_type, linked_term, pointed_term}
+use Rattle.typing_rules.specs.Constraints.{Branches, Indexes}
+use Rattle.typing_rules.specs.Holding.{Typing}
+use Rattle.typing_rules.specs.TypingParts.{IsDesignated, IsValue, IsWritten, IsMeant, IsNamed, AreCounted, IsText, IsIndexed, IsIndirect, IsMarked, IsAddress, IsOpposite, IsPromoted, IsNegative, IsComplement, IsComputed, AreTested, IsConjunction, IsDisjunction, IsChosen}
+use Rattle.typing_rules.specs.LanguageTypes.{IsOfLanguage, IsObjectType, HasTypes, PlaceHasTypes}
+use Rattle.typing_rules.specs.LanguageTerms.{IsDesignator, TermHas}
+use Rattle.typing_rules.proofs.Sound.{Sound, Any, sound_is, sound_such_as, sound_given, sound_holds, sound_asks, sound_makes, sound_never, sound_bind}
+use Rattle.typing_rules.proofs.LanguageTypesMade.{complete_is_there, complete_is_object, target_is, target_is_there, pointer_is, function_pointer_is}
+use Rattle.typing_rules.proofs.LanguageNodesMade.{IsTyped, integer_is, void_is, type_is, value_at_has, converted_has, binary_has, negated_has, choice_has}
+use Rattle.typing_rules.proofs.LanguageKnown.{Setting, At, IsGood, IsMeaningIf, name_means, local_is, at_addressed}
 
 -- ---- terms
-
-sound_such_as : {A : Type 0} {I : Known → Type 0} {P : A → Type 0} → Sound I P (Such P)
-sound_such_as = sound_such (λ a p. p)
 
 pub sound_designated : {I : Known → Type 0} (line : ℕ) (d : Designated) (type : CType) → IsDesignator d type → Sound I HasTypes (IsDesignated line d type)
 unfolding HasTypes

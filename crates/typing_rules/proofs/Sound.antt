@@ -16,6 +16,9 @@ sound_is {I = I} {Q = Q} q = record { sound = λ x k l h i. (subst Q (sym h.0) q
 pub sound_such : {A : Type 0} {I : Known → Type 0} {P Q : A → Type 0} → ((a : A) → P a → Q a) → Sound I Q (Such P)
 sound_such {I = I} f = record { sound = λ x k l h i. (f x h.0, subst I (sym h.1) i) }
 
+pub sound_such_as : {A : Type 0} {I : Known → Type 0} {P : A → Type 0} → Sound I P (Such P)
+sound_such_as = sound_such (λ a p. p)
+
 pub sound_given : {I : Known → Type 0} {P : Type 0} → Sound I (λ u. P) (Given P)
 sound_given {I = I} = record { sound = λ x k l h i. (h.0, subst I (sym h.1) i) }
 

@@ -1,19 +1,19 @@
 -- Every expression, and every type that a declarator names, has types of the language.
-use Rattle.std.proofs.Common.{ℕ, true, false, List, [], ◌∷◌, map, refl, Option, Some, None}
+use Rattle.std.proofs.Common.{ℕ, true, false, map, refl, sym, subst}
 use Rattle.srmt_base.specs.declared.op.Op.TheVariants.{Add, Sub}
 use Rattle.c_tree.specs.declared.operator.PrefixOp.TheVariants as pre
 use Rattle.c_tree.specs.declared.operator.PostfixOp.TheVariants as post
+use Rattle.c_types.specs.Types.{Qualified}
 use Rattle.typing_rules.specs.Source.{Expr, at, name, number, character, text, parenthesized, index, call, prefix, postfix, sizeof_expr, sizeof_type, cast, binary, conjunction, disjunction, choice, assignment, compound, comma, Exprs, no_exprs, first_expr, TypeName, type_name, Declarator, declarator, Parts, no_parts, pointer_part, array_part, unsized_part, function_part, Parameters, no_parameters, first_parameter, line_of}
 use Rattle.typing_rules.specs.Known.{Known}
-use Rattle.typing_rules.specs.Terms.{Term, Written, one_value, Change, change_by}
-use Rattle.typing_rules.specs.DeclaratorRules.{Lines, lines_of, parameter_type}
+use Rattle.typing_rules.specs.Terms.{Term, one_value, Change, change_by}
+use Rattle.typing_rules.specs.DeclaratorRules.{parameter_type}
 use Rattle.typing_rules.specs.Holding.{Typing}
-use Rattle.typing_rules.specs.Declarators.{IsLength}
 use Rattle.typing_rules.specs.Typing.{IsStepped, IsTerm, AreAll, IsTypeNamed, AreDerivations, AreParts, AreParameters}
 use Rattle.typing_rules.specs.Laws.{Each}
 use Rattle.typing_rules.specs.LanguageTypes.{IsOfLanguage, HasTypes}
-use Rattle.typing_rules.specs.LanguageTerms.{TermHas, KnowsTypes}
-use Rattle.typing_rules.proofs.Sound.{Sound, Any, sound_is, sound_such, sound_bind}
+use Rattle.typing_rules.specs.LanguageTerms.{TermHas, IsScope, KnowsTypes}
+use Rattle.typing_rules.proofs.Sound.{Sound, Any, sound_is, sound_such, sound_bind, sound_such_as}
 use Rattle.typing_rules.proofs.LanguageNodesMade.{IsTyped, integer_is, type_is, values_have}
 use Rattle.typing_rules.proofs.LanguageKnown.{Setting, At, IsGood}
 use Rattle.typing_rules.proofs.DerivedTypes.{IsDerivation, sound_specified, derived_is}
@@ -98,7 +98,7 @@ mutual
   sound_parts s g no_parts = sound_is tt
   sound_parts s g (pointer_part q ps) = sound_bind (sound_parts s g ps) (λ rest p. sound_is (tt, p))
   sound_parts s g (array_part line e ps) =
-      sound_bind (sound_written (line_of e) (sound_term s g e)) (λ a p. sound_bind {P = IsLength a.value} (sound_such (λ n h. h)) (λ n h.
+      sound_bind (sound_written (line_of e) (sound_term s g e)) (λ a p. sound_bind sound_such_as (λ n h.
       sound_bind (sound_parts s g ps) (λ rest q. sound_is ((h.2, h.3), q))))
   sound_parts s g (unsized_part line ps) = sound_bind (sound_parts s g ps) (λ rest p. sound_is (tt, p))
   sound_parts s g (function_part line list ps) =
@@ -114,7 +114,24 @@ mutual
 abbrev setting_of : Known → Setting
 setting_of k = record { scopes = k.scopes; types = map parameter_type k.locals; file_scope = k.file_scope }
 
+setting_is_good : (k : Known) → KnowsTypes k → IsGood (setting_of k)
+setting_is_good k knows = record { scopes = knows.scopes; file_scope = knows.file_scope }
+
+at_itself : (k : Known) → At (setting_of k) k
+at_itself k = record { scopes = refl; types = refl; file_scope = refl }
+
 pub term_has : (e : Expr) (term : Term) (k l : Known) → KnowsTypes k → IsTerm e term k l → TermHas term
-term_has e term k l knows h =
-    ((sound_term (setting_of k) (record { scopes = knows.scopes; file_scope = knows.file_scope }) e).sound term k l h
-    (record { scopes = refl; types = refl; file_scope = refl })).0
+term_has e term k l knows h = ((sound_term (setting_of k) (setting_is_good k knows) e).sound term k l h (at_itself k)).0
+
+pub type_named_is : (t : TypeName) (type : Qualified) (k l : Known) → KnowsTypes k → IsTypeNamed t type k l → IsOfLanguage type.type
+type_named_is t type k l knows h = ((sound_type_named (setting_of k) (setting_is_good k knows) t).sound type k l h (at_itself k)).0
+
+knows_still : (k l : Known) → At (setting_of k) l → KnowsTypes k → KnowsTypes l
+knows_still k l same knows = record {
+  scopes = subst (λ ts. Each (IsScope ts) l.scopes) (sym same.types) (subst (Each (IsScope (map parameter_type k.locals))) (sym same.scopes) knows.scopes);
+  file_scope = subst (λ ts. IsScope ts l.file_scope) (sym same.types) (subst (IsScope (map parameter_type k.locals)) (sym same.file_scope) knows.file_scope);
+}
+
+pub term_keeps : (e : Expr) (term : Term) (k l : Known) → KnowsTypes k → IsTerm e term k l → KnowsTypes l
+term_keeps e term k l knows h =
+    knows_still k l ((sound_term (setting_of k) (setting_is_good k knows) e).sound term k l h (at_itself k)).1 knows

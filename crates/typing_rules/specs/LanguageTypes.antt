@@ -1,6 +1,6 @@
 -- Which types are those of the language (C11 6.2.5, within the subset and the limits), and that every node of a typed
 -- tree has such a type.
-use Rattle.std.specs.Prelude.{ℕ, suc, ◌≤◌, List, [], ◌∷◌, length, Option, Some, None, IsTrue, IsFalse}
+use Rattle.std.specs.Prelude.{ℕ, suc, ◌≤◌, length, Option, Some, None, IsTrue, IsFalse}
 use Rattle.c_types.specs.Types.{CType, void, integer, pointer, array, returning, taking, is_void, is_scalar, is_array, is_function, is_complete, parameters_of, cells_of}
 use Rattle.c_typed.specs.Typed as t
 use Rattle.c_typed.specs.Typed.{Place, place, PlaceNode, Value, value, ValueNode, Values, no_values, first_value}

@@ -11,7 +11,8 @@
 -- The ordered function: its combinators (Checking), then the same constructs with their refusals in order
 -- (OrderedParts, Ordered; OrderedDeclarations; OrderedStatements; OrderedUnits, which ends in checked).
 --
--- Exact says that the two are one, part by part; Laws says what holds of every typed program.
+-- Exact says that the two are one, part by part; Laws says what holds of every typed program; LanguageTypes says which
+-- types are the language's, and LanguageTerms that what expressions are has such types.
 pub mod Source
 pub mod SourceUnits
 pub mod SourceViews

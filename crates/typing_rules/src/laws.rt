@@ -1,15 +1,17 @@
 //! Laws of typing: each function does nothing, and its contract is proved.
 
 ghost use Rattle.std.specs.Prelude.{◌≡◌, Ok, Err, Option, ◌↔◌};
+ghost use Rattle.c_types.specs.Types.{Qualified};
 ghost use Rattle.c_typed.specs.Statements.{Program};
 ghost use Rattle.typing_rules.specs.SourceUnits.{Unit as SourceUnit};
-ghost use Rattle.typing_rules.specs.Source.{Expr};
+ghost use Rattle.typing_rules.specs.Source.{Expr, TypeName};
 ghost use Rattle.typing_rules.specs.Known.{Known};
 ghost use Rattle.typing_rules.specs.Terms.{Term};
-ghost use Rattle.typing_rules.specs.Ordered.{term_of};
+ghost use Rattle.typing_rules.specs.Ordered.{term_of, type_named};
 ghost use Rattle.typing_rules.specs.OrderedUnits.{checked};
 ghost use Rattle.typing_rules.specs.TypingUnits.{Types};
 ghost use Rattle.typing_rules.specs.Laws.{ContentsFit, FunctionsFit};
+ghost use Rattle.typing_rules.specs.LanguageTypes.{IsOfLanguage};
 ghost use Rattle.typing_rules.specs.LanguageTerms.{KnowsTypes, TermHas};
 ghost use Rattle.typing_rules.specs.declared.refusal.TypeRefusal.{TypeRefusal as Refusal};
 
@@ -41,4 +43,14 @@ pub fn functions_fit()
 /// Where what is known has types of the language, so has each node of a typed expression.
 pub fn expressions_have_types()
     ensures { (e : Expr) (term : Term) (before after : Known) → KnowsTypes before → term_of e before ≡ Ok (term, after) → TermHas term }
+{}
+
+/// What expressions leave known has types of the language, as what was known before.
+pub fn expressions_keep_types()
+    ensures { (e : Expr) (term : Term) (before after : Known) → KnowsTypes before → term_of e before ≡ Ok (term, after) → KnowsTypes after }
+{}
+
+/// A type that a cast or `sizeof` names is one of the language.
+pub fn named_types_are_of_language()
+    ensures { (t : TypeName) (type : Qualified) (before after : Known) → KnowsTypes before → type_named t before ≡ Ok (type, after) → IsOfLanguage type.type }
 {}
