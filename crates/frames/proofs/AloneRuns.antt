@@ -1,5 +1,5 @@
 -- Steps of one activation by itself are steps of the run.
-use Rattle.std.proofs.Common.{◌≡◌, ℕ, ◌+◌, ◌<◌, ◌^◌, List, [], length, Option, Some, None, refl, sym, ap, subst, ◌∙◌, arith}
+use Rattle.std.proofs.Common.{◌≡◌, ℕ, ◌<◌, List, [], length, Some, refl, sym, ap, subst, ◌∙◌}
 use Rattle.std.specs.Prelude.{slice_index_or, slice_get, option_and_then}
 use Rattle.std.proofs.lemmas.Option.{slice_get-get_or}
 use Rattle.srmt_base.specs.declared.budgets.Budget.{Budget}
@@ -14,9 +14,8 @@ use Rattle.mid_code.specs.declared.mid.Mid.TheVariants.{Const, Move, Arith, Conv
 use Rattle.mid_code.specs.declared.program.MidFunction.{MidFunction}
 use Rattle.mid_code.specs.Program.{function_at, line_at}
 use Rattle.mid_code.specs.Valid.{IsValid}
-use Rattle.mid_code.specs.Machine.{Opened, Activation, Local, Machine, Does, Goes, part_of_function, local_of, with_local, does}
-use Rattle.mid_code.specs.Meaning.{State, Step, On, step, step_by, Comes}
-use Rattle.mid_code.specs.Bounds.{alone_to_go, Nears}
+use Rattle.mid_code.specs.Machine.{Opened, Activation, Local, Machine, Goes, part_of_function, local_of, with_local, does}
+use Rattle.mid_code.specs.Meaning.{State, On, step, step_by, Comes}
 use Rattle.mid_code.specs.Fits.{IsWithin}
 use Rattle.mid_code.proofs.OneMeaning.{comes_on}
 use Rattle.mid_code.proofs.InstructionsFit.{Sound, does-at, does_fits}

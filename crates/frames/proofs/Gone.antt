@@ -1,12 +1,12 @@
 -- What an activation does by itself, and what it leaves of its part's budget.
-use Rattle.std.proofs.Common.{◌≡◌, ℕ, ◌+◌, ◌≤◌, List, Result, Ok, Err, refl, sym, ap, ◌∙◌, arith}
+use Rattle.std.proofs.Common.{◌≡◌, ◌+◌, ◌≤◌, refl, sym, ap, ◌∙◌, arith}
 use Rattle.srmt_base.specs.declared.budgets.Budget.{Budget}
 use Rattle.srmt_base.specs.declared.budgets.Budgets.{Budgets}
 use Rattle.srmt_base.specs.declared.part.Part.{Part}
 use Rattle.srmt_base.specs.declared.part.Part.TheVariants.{Protected, Binary}
 use Rattle.srmt_base.specs.Budgets.{budget_of, with_budget}
 use Rattle.mid_code.specs.declared.program.MidProgram.{MidProgram}
-use Rattle.mid_code.specs.Machine.{Activation, Local, Machine, goes, local_of, with_local, with_top, part_of_function}
+use Rattle.mid_code.specs.Machine.{Activation, Machine, goes, local_of, with_local, with_top, part_of_function}
 use Rattle.frames.specs.Kept.{Kept, with_machine, depths}
 use Rattle.frames.specs.Acts.{HasGone}
 

@@ -6,7 +6,7 @@ use Rattle.std.proofs.Math.Seq.{take-set-lt}
 use Rattle.std.proofs.lemmas.List.Elements.{All-set, All-take, All-append, All-replicate}
 use Rattle.srmt_base.specs.declared.budgets.Budgets.{Budgets}
 use Rattle.mid_code.specs.Fits.{IsValue, open_count}
-use Rattle.mid_code.specs.Machine.{activations, Activation, Opened, given, given_object, passed_close, resumed, with_top, register}
+use Rattle.mid_code.specs.Machine.{activations, Activation, Opened, given, given_object, passed_close, resumed, with_top}
 use Rattle.frames.specs.declared.frames.Line.{Line}
 use Rattle.frames.specs.declared.frames.Room.{Room}
 use Rattle.frames.specs.declared.frames.Begun.{Begun}

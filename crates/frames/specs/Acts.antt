@@ -12,9 +12,11 @@ use Rattle.mid_code.specs.declared.mid.Mid.TheVariants.{Const, Move, Arith, Conv
 use Rattle.mid_code.specs.declared.access.Access.{Access}
 use Rattle.mid_code.specs.declared.access.Access.TheVariants.{Loads, Stores, VolatileLoads, VolatileStores, Opens, Closes, Puts, Gets, Exits}
 use Rattle.mid_code.specs.Registers.{registers_list}
-use Rattle.mid_code.specs.Program.{function_at, line_at}
+use Rattle.mid_code.specs.Program.{function_at}
 use Rattle.mid_code.specs.Fits.{IsValue}
-use Rattle.mid_code.specs.Machine.{Opened, Activation, Local, Does, Goes, Calls, Leaves, Traps, Reaches, register, arguments, is_callee, calls_value, with_local}
+use Rattle.mid_code.specs.declared.registers.Registers.{Registers}
+use Rattle.mid_code.specs.Machine.{Opened, Activation, Local, Machine, Does, Goes, Calls, Leaves, Traps, Reaches, Entry}
+use Rattle.mid_code.specs.Machine.{register, arguments, is_callee, calls_value, goes, local_of, with_local, act, activations, waiting, enter}
 use Rattle.frames.specs.Kept.{Kept, with_machine}
 use Rattle.frames.specs.declared.act.Did.{Did}
 use Rattle.frames.specs.declared.act.Did.TheVariants.{Went, Called, Left, Trapped, Wants}
@@ -104,6 +106,17 @@ pub record HasGone (program : MidProgram) (does : Does) (before after : Kept) : 
   pub goes : does ≡ Goes local
   pub stands : after ≡ with_machine (with_local program local before.machine) before
 
+-- what an instruction does to the newest activation
+abbrev pub performed : MidProgram → MidLine → Kept → Does
+performed program line k = act program line.mid line.line (local_of program k.machine)
+
+-- a function is called with registers as its arguments, or entered above all activations
+abbrev pub called : MidProgram → ℕ → Registers → ℕ → Machine → Entry
+called program function args into m = enter program function (arguments m.top args) into (waiting m) m.budgets
+
+abbrev pub entered_above : MidProgram → ℕ → List ℕ → ℕ → Machine → Entry
+entered_above program function args into m = enter program function args into (activations m) m.budgets
+
 -- what the code says that an instruction did is what it does, and the machine is as it leaves it; where the instruction
 -- needs more than its activation, nothing has changed
 abbrev pub HasDone : MidProgram → Does → ℕ → Kept → Kept → Did → Type 0
@@ -115,3 +128,8 @@ HasDone program does line before after (Left value) = (does ≡ Leaves value) ×
 HasDone program does line before after (Trapped trap at) = (does ≡ Traps trap at) × (after ≡ before)
 HasDone program does line before after (Wants access) =
     (does ≡ Reaches access line) × (after ≡ before) × CanReach access before.machine.top
+
+-- an activation has gone on to another, by itself
+abbrev pub GoesTo : Kept → Activation → Kept → Did → Type 0
+GoesTo before a after did =
+    (program : MidProgram) (line : ℕ) → HasDone program (goes (local_of program before.machine) a) line before after did

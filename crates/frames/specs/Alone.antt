@@ -1,5 +1,5 @@
 -- What an activation does by its registers, its place and the turns of its part alone.
-use Rattle.std.specs.Prelude.{ℕ, ◌≡◌, ◌+◌, ◌<◌, ◌≤◌, Bool, true, false, List, Option, Some, None, Result, Ok, Err, IsTrue, slice_set}
+use Rattle.std.specs.Prelude.{ℕ, ◌≡◌, ◌+◌, ◌<◌, ◌≤◌, Bool, true, false, List, [], Option, Some, None, Result, Ok, Err, IsTrue, slice_set}
 use Rattle.srmt_base.specs.declared.trap.Trap.{Trap}
 use Rattle.srmt_base.specs.Types.{IsPromoted}
 use Rattle.srmt_base.specs.Arith.{is_comparison}
@@ -8,7 +8,7 @@ use Rattle.mid_code.specs.declared.mid.Mid.{Mid}
 use Rattle.mid_code.specs.declared.mid.Mid.TheVariants.{Const, Move, Arith, Conv, PtrAdd, PtrDiff, PtrCmp, GlobAddr, FunAddr, Load, Store, VLoad, VStore, Open, Close, Jump, JumpZ, JumpN, Turn, Call, CallPtr, Return, Put, Get, Exit}
 use Rattle.mid_code.specs.Fits.{IsWithin}
 use Rattle.mid_code.specs.Machine.{Opened, Local, Goes, local_of, with_local, act}
-use Rattle.mid_code.specs.Meaning.{State}
+use Rattle.mid_code.specs.Meaning.{State, Comes}
 use Rattle.frames.specs.declared.alone.Stand.{Stand}
 
 -- an activation with these registers and at this place, with as many turns left
@@ -20,6 +20,11 @@ local_at l registers stand =
 abbrev pub state_at : MidProgram → State → List ℕ → Stand → State
 state_at program s registers stand =
     record s { machine = with_local program (local_at (local_of program s.machine) registers stand) s.machine }
+
+-- the one comes to the other, with no event, in any run whose newest activation is one of this function
+abbrev pub ComesAlone : MidProgram → ℕ → List ℕ → Stand → List ℕ → Stand → Type 0
+ComesAlone program number before from after to =
+    (s : State) → s.machine.top.function ≡ number → Comes program (state_at program s before from) [] (state_at program s after to)
 
 -- an instruction goes on from the one to the other, whatever else its activation has
 abbrev pub GoesBy : Mid → List ℕ → Stand → List ℕ → Stand → Type 0

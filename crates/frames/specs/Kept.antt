@@ -78,7 +78,8 @@ AreStacked end top (line ∷ lines) =
 
 -- what a machine keeps of its rows: they are laid so, the registers hold values, and there is room for all activations
 -- that the budgets allow
-pub record AreKept (room : Room) (registers : List ℕ) (objects : List Begun) (top : Line) (below : List Line) (budgets : Budgets) (register_room object_room line_room : ℕ) : Type 0 where
+pub record AreKept (room : Room) (registers : List ℕ) (objects : List Begun) (top : Line) (below : List Line) (budgets : Budgets)
+    (register_room object_room line_room : ℕ) : Type 0 where
   pub laid : AreStacked (length registers) (length objects) (top ∷ reverse below)
   pub small : All IsValue registers
   pub few : length below + 1 + depths budgets ≤ room.activations

@@ -3,7 +3,7 @@ ghost use Rattle.srmt_base.specs.Budgets.{after_turn};
 ghost use Rattle.mid_code.specs.Fits.{IsValue};
 ghost use Rattle.mid_code.specs.declared.program.MidProgram.{MidProgram as Program};
 ghost use Rattle.mid_code.specs.Machine.{goes, given, gives, moved_if, counts, is_callee, closes, local_of, act};
-ghost use Rattle.frames.specs.Acts.{IsThere, IsNewest, IsReady, IsCallOf, HasDone};
+ghost use Rattle.frames.specs.Acts.{IsThere, IsNewest, IsReady, IsCallOf, GoesTo, HasDone, performed};
 
 use crate::entry::part_of;
 use crate::frames::Frames;
@@ -36,7 +36,7 @@ pub enum Did {
 /// alone.
 pub fn perform(frames: &mut Frames, program: &MidProgram, line: &MidLine) -> Did
     requires ready { IsReady program.now frames.old.machine.top line.now.mid }
-    ensures { HasDone program.now (act program.now line.now.mid line.now.line (local_of program.now frames.old.machine)) line.now.line frames.old frames.new result }
+    ensures { HasDone program.now (performed program.now line.now frames.old) line.now.line frames.old frames.new result }
 {
     let at = line.line;
     match line.mid {
@@ -160,7 +160,7 @@ fn set(frames: &mut Frames, target: u16, value: u64) -> Did
     requires place { frames.old.machine.top.place + 1 < 2 ^ 32 }
     requires target { IsThere frames.old.machine.top target }
     requires small { IsValue value }
-    ensures { (program : Program) → (line : ℕ) → let l = local_of program frames.old.machine in HasDone program (goes l (given target value l.at)) line frames.old frames.new result }
+    ensures { GoesTo frames.old (given target value frames.old.machine.top) frames.new result }
 {
     frames.give(target, value);
     Did::Went
@@ -182,7 +182,7 @@ fn set_or_trap(frames: &mut Frames, target: u16, outcome: Result<u64, Trap>, at:
 /// A jump is taken or not.
 fn jump(frames: &mut Frames, taken: bool, place: u32) -> Did
     requires { frames.old.machine.top.place + 1 < 2 ^ 32 }
-    ensures { (program : Program) → (line : ℕ) → let l = local_of program frames.old.machine in HasDone program (goes l (moved_if taken place l.at)) line frames.old frames.new result }
+    ensures { GoesTo frames.old (moved_if taken place frames.old.machine.top) frames.new result }
 {
     if taken {
         frames.go(place);

@@ -1,7 +1,6 @@
-ghost use Rattle.std.specs.Prelude.{◌≡◌, ◌+◌, ◌-◌, ◌==◌, ◌^◌, ◌<◌, [], length, slice_set, Some, None, if◌then◌else◌};
+ghost use Rattle.std.specs.Prelude.{◌≡◌, ◌+◌, ◌-◌, ◌==◌, ◌^◌, ◌<◌, length, slice_set, Some, None, if◌then◌else◌};
 ghost use Rattle.mid_code.specs.Valid.{IsValid};
-ghost use Rattle.mid_code.specs.Meaning.{State, Comes};
-ghost use Rattle.frames.specs.Alone.{Names, HasStepped, IsSetIf, jumped, IsWithinCode, state_at};
+ghost use Rattle.frames.specs.Alone.{Names, HasStepped, IsSetIf, jumped, IsWithinCode, ComesAlone};
 
 use mid_code::{Mid, MidProgram};
 use srmt_base::{Trap, arith, convert, pointer_comparison, pointer_difference, pointer_sum};
@@ -24,7 +23,7 @@ pub(crate) fn run_code(
 ) -> Stand
     requires valid { IsValid program.now }
     requires within { IsWithinCode program.now number stand.place registers.old }
-    ensures comes { (s : State) → s.machine.top.function ≡ number → Comes program.now (state_at program.now s registers.old stand) [] (state_at program.now s registers.new result) }
+    ensures comes { ComesAlone program.now number registers.old stand registers.new result }
     ensures within { IsWithinCode program.now number result.place registers.new }
     ensures count { length registers.new ≡ length registers.old }
 {

@@ -1,9 +1,9 @@
 ghost use Rattle.std.specs.Prelude.{◌≡◌, ◌+◌, ◌^◌, ◌<◌, ◌≤◌, length, Some, OnOk, OnErr, IfErr, All};
 ghost use Rattle.mid_code.specs.Fits.{IsValue};
 ghost use Rattle.mid_code.specs.Registers.{registers_list};
-ghost use Rattle.mid_code.specs.Machine.{Entered, Refused as Refuses, activations, arguments, waiting, enter as enter_of, returned, part_of_function};
+ghost use Rattle.mid_code.specs.Machine.{Entered, Refused as Refuses, returned, part_of_function};
 ghost use Rattle.frames.specs.Kept.{TakesResult};
-ghost use Rattle.frames.specs.Acts.{IsThere, CanEnter};
+ghost use Rattle.frames.specs.Acts.{IsThere, CanEnter, called, entered_above};
 
 use crate::frames::Frames;
 use mid_code::{MidProgram, Registers};
@@ -41,8 +41,8 @@ impl Frames {
         requires place { self.old.machine.top.place + 1 < 2 ^ 32 }
         requires can { CanEnter program.now function (length (registers_list args.now)) }
         requires there { All (IsThere self.old.machine.top) (registers_list args.now) }
-        ensures ok { OnOk result (let m = self.old.machine in enter_of program.now function (arguments m.top args.now) into (waiting m) m.budgets ≡ Entered self.new.machine) }
-        ensures refused { IfErr result (λ r. let m = self.old.machine in enter_of program.now function (arguments m.top args.now) into (waiting m) m.budgets ≡ Refuses r.trap r.line) }
+        ensures ok { OnOk result (called program.now function args.now into self.old.machine ≡ Entered self.new.machine) }
+        ensures refused { IfErr result (λ r. called program.now function args.now into self.old.machine ≡ Refuses r.trap r.line) }
         ensures room { self.new.room ≡ self.old.room }
         ensures err { OnErr result (self.new ≡ self.old) }
     {
@@ -74,8 +74,8 @@ impl Frames {
     ) -> Result<(), Refused>
         requires can { CanEnter program.now function (length args.now) }
         requires small { All IsValue args.now }
-        ensures ok { OnOk result (let m = self.old.machine in enter_of program.now function args.now into (activations m) m.budgets ≡ Entered self.new.machine) }
-        ensures refused { IfErr result (λ r. let m = self.old.machine in enter_of program.now function args.now into (activations m) m.budgets ≡ Refuses r.trap r.line) }
+        ensures ok { OnOk result (entered_above program.now function args.now into self.old.machine ≡ Entered self.new.machine) }
+        ensures refused { IfErr result (λ r. entered_above program.now function args.now into self.old.machine ≡ Refuses r.trap r.line) }
         ensures room { self.new.room ≡ self.old.room }
         ensures err { OnErr result (self.new ≡ self.old) }
     {

@@ -8,7 +8,7 @@ ghost use Rattle.mid_code.specs.Registers.{registers_list};
 ghost use Rattle.mid_code.specs.Machine.{activations, arguments, passed, moved_to, given, given_object, passed_close, resumed, register, with_top};
 ghost use Rattle.frames.specs.Kept.{with_machine, depths, fresh, pushed, IsPopped, newest_number};
 ghost use Rattle.frames.specs.Acts.{IsThere};
-ghost use Rattle.frames.specs.Alone.{IsWithinCode, state_at};
+ghost use Rattle.frames.specs.Alone.{IsWithinCode, ComesAlone};
 
 use crate::alone::{Stand, run_code};
 use crate::entry::part_of;
@@ -73,7 +73,8 @@ impl Model for Frames {
 
     ghost view = { λ s. record { machine = machine_in s.registers.items s.objects.items s.top s.below.items s.budgets; room = s.room } };
 
-    ghost invariant = { λ s. AreKept s.room s.registers.items s.objects.items s.top s.below.items s.budgets (vec_capacity s.registers) (vec_capacity s.objects) (vec_capacity s.below) };
+    ghost invariant = { λ s. AreKept s.room s.registers.items s.objects.items s.top s.below.items s.budgets
+        (vec_capacity s.registers) (vec_capacity s.objects) (vec_capacity s.below) };
 }
 
 impl Frames {
@@ -380,7 +381,7 @@ fn run_row(
     ensures before { take base registers.new.items ≡ take base registers.old.items }
     ensures count { length registers.new.items ≡ length registers.old.items }
     ensures capacity { vec_capacity registers.new ≡ vec_capacity registers.old }
-    ensures comes { (s : State) → s.machine.top.function ≡ number → Comes program.now (state_at program.now s (drop base registers.old.items) stand) [] (state_at program.now s (drop base registers.new.items) result) }
+    ensures comes { ComesAlone program.now number (drop base registers.old.items) stand (drop base registers.new.items) result }
     ensures within { IsWithinCode program.now number result.place (drop base registers.new.items) }
 {
     run_code(program, number, &mut registers[base..], stand)

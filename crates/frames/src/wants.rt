@@ -1,4 +1,4 @@
-ghost use Rattle.std.specs.Prelude.{◌≡◌, ◌+◌, ◌^◌, ◌<◌, ◌≤◌, [], ◌∷◌, IfSome, IfOk, OnErr};
+ghost use Rattle.std.specs.Prelude.{◌≡◌, ◌+◌, ◌^◌, ◌<◌, ◌≤◌, [], IfSome, IfOk, OnErr};
 ghost use Rattle.srmt_base.specs.declared.event.Event.{Event};
 ghost use Rattle.srmt_base.specs.Objects.{object_part, offset_part};
 ghost use Rattle.srmt_base.specs.Memory.{read_of, write_of};
@@ -6,7 +6,7 @@ ghost use Rattle.srmt_outside.specs.Told.{Appends};
 ghost use Rattle.mid_code.specs.Fits.{IsValue};
 ghost use Rattle.mid_code.specs.Meaning.{after_read, after_write, reach as reach_of};
 ghost use Rattle.frames.specs.Acts.{IsThere, CanReach};
-ghost use Rattle.frames.specs.Reaching.{state_of, events_of, LeadsTo, GivesEvent, HasRoom, Counted};
+ghost use Rattle.frames.specs.Reaching.{state_of, events_of, volatile_read, volatile_write, LeadsTo, GivesEvent, HasRoom, Counted};
 
 use crate::entry::part_of;
 use crate::running::Running;
@@ -113,11 +113,11 @@ fn load_volatile<O: Outlet>(
     requires place { running.old.frames.machine.top.place + 1 < 2 ^ 32 }
     requires target { IsThere running.old.frames.machine.top target }
     requires pointer { IsValue pointer }
-    ensures reached { IfOk result (λ end. let s = state_of running.old in LeadsTo (after_read target line (Event.PortRead (object_part pointer) (offset_part pointer) ∷ []) s (read_of s.memory pointer)) (state_of running.new) (events_of (Access.VolatileLoads target pointer) end) end) }
+    ensures reached { IfOk result (λ end. LeadsTo (volatile_read target pointer line (state_of running.old)) (state_of running.new) (events_of (Access.VolatileLoads target pointer) end) end) }
     ensures told { IfOk result (λ end. Appends (O.events outlet.old) (O.events outlet.new) (events_of (Access.VolatileLoads target pointer) end)) }
     ensures still { IfOk result (λ end. IfSome end (λ _. running.new ≡ running.old)) }
     ensures room { running.new.frames.room ≡ running.old.frames.room }
-    ensures before { OnErr result (let s = state_of running.old in GivesEvent (after_read target line (Event.PortRead (object_part pointer) (offset_part pointer) ∷ []) s (read_of s.memory pointer))) }
+    ensures before { OnErr result (GivesEvent (volatile_read target pointer line (state_of running.old))) }
     ensures kept { OnErr result (running.new ≡ running.old) }
     ensures unwritten { OnErr result (O.events outlet.new ≡ O.events outlet.old) }
     ensures counted { Counted result (O.faults outlet.old) (O.faults outlet.new) }
@@ -145,11 +145,11 @@ fn store_volatile<O: Outlet>(
     requires place { running.old.frames.machine.top.place + 1 < 2 ^ 32 }
     requires pointer { IsValue pointer }
     requires small { IsValue value }
-    ensures reached { IfOk result (λ end. let s = state_of running.old in LeadsTo (after_write line (Event.PortWrite (object_part pointer) (offset_part pointer) value ∷ []) s (write_of s.memory pointer value)) (state_of running.new) (events_of (Access.VolatileStores pointer value) end) end) }
+    ensures reached { IfOk result (λ end. LeadsTo (volatile_write pointer value line (state_of running.old)) (state_of running.new) (events_of (Access.VolatileStores pointer value) end) end) }
     ensures told { IfOk result (λ end. Appends (O.events outlet.old) (O.events outlet.new) (events_of (Access.VolatileStores pointer value) end)) }
     ensures still { IfOk result (λ end. IfSome end (λ _. running.new ≡ running.old)) }
     ensures room { running.new.frames.room ≡ running.old.frames.room }
-    ensures before { OnErr result (let s = state_of running.old in GivesEvent (after_write line (Event.PortWrite (object_part pointer) (offset_part pointer) value ∷ []) s (write_of s.memory pointer value))) }
+    ensures before { OnErr result (GivesEvent (volatile_write pointer value line (state_of running.old))) }
     ensures kept { OnErr result (running.new ≡ running.old) }
     ensures unwritten { OnErr result (O.events outlet.new ≡ O.events outlet.old) }
     ensures counted { Counted result (O.faults outlet.old) (O.faults outlet.new) }

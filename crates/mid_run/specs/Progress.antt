@@ -5,6 +5,7 @@ use Rattle.srmt_base.specs.declared.trap.SourceEnd.{SourceEnd}
 use Rattle.mid_code.specs.declared.program.MidProgram.{MidProgram}
 use Rattle.mid_code.specs.Fits.{Fits}
 use Rattle.mid_code.specs.Meaning.{State, On, Ends, step, Comes, Finishes}
+use Rattle.srmt_outside.specs.Told.{Appends}
 use Rattle.frames.specs.Reaching.{GivesEvent}
 
 -- it goes on from a state, or has ended
@@ -27,6 +28,10 @@ Steps program (At s) events (At next) = step program s ≡ On next events
 Steps program (At s) events (Over end) = step program s ≡ Ends end events
 Steps program (Over end) events (At next) = ⊥
 Steps program (Over end) events (Over again) = (again ≡ end) × (events ≡ [])
+
+-- a step was made, and the outlet was told its events
+abbrev pub IsStep : MidProgram → Progress → Progress → Option (List Event) → Option (List Event) → Type 0
+IsStep program p q before after = (events : List Event) × Steps program p events q × Appends before after events
 
 -- any number of steps leads from the one to the other, with these events in all
 abbrev pub Runs : MidProgram → Progress → List Event → Progress → Type 0

@@ -1,13 +1,10 @@
-ghost use Rattle.std.specs.Prelude.{◌≡◌, ◌+◌, ◌^◌, ◌<◌, List, [], IfOk, OnErr};
-ghost use Rattle.srmt_base.specs.declared.event.Event.{Event};
-ghost use Rattle.srmt_outside.specs.Told.{Appends};
+ghost use Rattle.std.specs.Prelude.{◌≡◌, ◌+◌, ◌^◌, ◌<◌, [], OnErr};
 ghost use Rattle.mid_code.specs.Registers.{registers_list};
 ghost use Rattle.mid_code.specs.Valid.{IsValid};
 ghost use Rattle.mid_code.specs.Fits.{Fits};
-ghost use Rattle.mid_code.specs.Machine.{arguments, waiting, enter};
 ghost use Rattle.mid_code.specs.Meaning.{after_call, step};
-ghost use Rattle.frames.specs.Acts.{CanCall};
-ghost use Rattle.frames.specs.Reaching.{state_of, LeadsTo, GivesEvent, Counted};
+ghost use Rattle.frames.specs.Acts.{CanCall, called};
+ghost use Rattle.frames.specs.Reaching.{state_of, Leads, LeadsTo, GivesEvent, Counted};
 
 use frames::{Did, Running, next_line, perform, reach};
 use mid_code::{MidProgram, Registers};
@@ -24,7 +21,7 @@ pub(crate) fn execute<O: Outlet>(
     requires valid { IsValid program.now }
     requires fits { Fits program.now (state_of running.old) }
     requires room { running.old.frames.room.objects ≡ 2097152 }
-    ensures leads { IfOk result (λ end. (events : List Event) × LeadsTo (step program.now (state_of running.old)) (state_of running.new) events end × Appends (O.events outlet.old) (O.events outlet.new) events) }
+    ensures leads { Leads (step program.now (state_of running.old)) (state_of running.new) result (O.events outlet.old) (O.events outlet.new) }
     ensures room { running.new.frames.room ≡ running.old.frames.room }
 
     // An event that failed is not written, and its instruction is still to be done.
@@ -64,7 +61,7 @@ fn call(
 ) -> Option<SourceEnd>
     requires place { running.old.frames.machine.top.place + 1 < 2 ^ 32 }
     requires can { CanCall program.now running.old.frames.machine.top function (registers_list args.now) target }
-    ensures leads { let m = running.old.frames.machine in LeadsTo (after_call (state_of running.old) (enter program.now function (arguments m.top args.now) target (waiting m) m.budgets)) (state_of running.new) [] result }
+    ensures leads { let entry = called program.now function args.now target running.old.frames.machine in LeadsTo (after_call (state_of running.old) entry) (state_of running.new) [] result }
     ensures room { running.new.frames.room ≡ running.old.frames.room }
 {
     match running.frames.call(program, function, args, target) {

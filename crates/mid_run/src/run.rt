@@ -6,7 +6,7 @@ ghost use Rattle.mid_code.specs.Valid.{IsValid};
 ghost use Rattle.mid_code.specs.Start.{FitLimits};
 ghost use Rattle.mid_code.specs.Meaning.{started};
 ghost use Rattle.frames.specs.Reaching.{Counted};
-ghost use Rattle.mid_run.specs.Progress.{Progress, At, FitsIn, Steps, Runs, IsBeforeEvent, end_of};
+ghost use Rattle.mid_run.specs.Progress.{Progress, At, FitsIn, IsStep, Runs, IsBeforeEvent, end_of};
 
 use crate::execute::execute;
 use frames::{Frames, Input, Memory, OPEN_OBJECTS, Room, Running, begin_statics};
@@ -92,7 +92,7 @@ impl MidRun {
     ) -> Result<Option<SourceEnd>, Failed>
         requires valid { IsValid program.now }
         requires fits { FitsIn program.now self.old }
-        ensures step { OnOk result ((events : List Event) × Steps program.now self.old events self.new × Appends (O.events outlet.old) (O.events outlet.new) events) }
+        ensures step { OnOk result (IsStep program.now self.old self.new (O.events outlet.old) (O.events outlet.new)) }
         ensures end { IfOk result (λ end. end ≡ end_of self.new) }
         ensures fits { FitsIn program.now self.new }
 

@@ -2,6 +2,7 @@ ghost use Rattle.std.specs.Prelude.{◌≡◌, ◌^◌, ◌≤◌, IfOk};
 ghost use Rattle.srmt_base.specs.Statics.{static_cells};
 
 use crate::MidRun;
+use cases::mid;
 use mid_code::{
     FunType, Mid, MidFunction, MidLine, MidProgram, RegisterKind, Registers, Static, valid,
 };
@@ -10,14 +11,11 @@ use srmt_base::{Event, Limits, Op, SourceEnd, Trap, Ty};
 use srmt_outside::MemOutlet;
 use std::alloc::{AllocError, Global};
 use std::process::Abort;
+use std::test::Fail;
 
 mod budgets;
 mod calls;
-mod control;
-mod memory;
-mod outside;
-mod pointers;
-mod values;
+mod cases;
 
 /// Instructions one after another, with the numbers of their lines from `line` on.
 fn lines(alloc: Global, line: u32, code: &[Mid]) -> Result<Items<MidLine>, AllocError>
@@ -122,19 +120,6 @@ fn arith(op: Op, target: u16, left: u16, right: u16) -> Mid {
         target,
         left,
         right,
-    }
-}
-
-/// The address of a static object.
-fn global(target: u16, object: u32) -> Mid {
-    Mid::GlobAddr { target, object }
-}
-
-/// Reads the cell to which register 4 points into register 0.
-fn load() -> Mid {
-    Mid::Load {
-        target: 0,
-        pointer: 4,
     }
 }
 
@@ -245,6 +230,27 @@ fn check(rt: &impl Abort, alloc: Global, cases: &[Case]) -> Result<(), AllocErro
         let events = events(alloc, case)?;
         assert_eq!(rt; done, Some(case.end), "{:?}", case.code);
         assert_eq!(rt; outlet.events(), events.as_slice(), "{:?}", case.code);
+    }
+    Ok(())
+}
+
+/// Each program gives its event, if it has one, and comes to its end.
+#[test]
+fn programs_come_to_their_ends(rt: HostRuntime) -> Result<(), Fail> {
+    let alloc = rt.alloc();
+    for (a, b, c, d, e, f, event, end) in &cases::CASES {
+        let code = [mid(*a), mid(*b), mid(*c), mid(*d), mid(*e), mid(*f)];
+        let mut outlet = MemOutlet::with_room(alloc, 4)?;
+        let done = run(alloc, &code, LIMITS, &mut outlet)?;
+        assert_eq!(rt; done, Some(*end), "{code:?}");
+        let mut events = Vec::new(alloc);
+        if let Some(event) = *event {
+            events.push(event)?;
+        }
+        if let SourceEnd::Exit(status) = *end {
+            events.push(Event::Exit(status))?;
+        }
+        assert_eq!(rt; outlet.events(), events.as_slice(), "{code:?}");
     }
     Ok(())
 }

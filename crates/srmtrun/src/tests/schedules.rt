@@ -1,4 +1,5 @@
-ghost use Rattle.std.specs.Prelude.{◌<◌, length};
+ghost use Rattle.std.specs.Prelude.{◌<◌, length, IfOk};
+ghost use Rattle.mid_code.specs.Start.{FitLimits};
 
 use first_form::{compile_first_form, pair_of};
 use mid_code::Pair;
@@ -18,6 +19,7 @@ const LIMITS: Limits = Limits {
 // The pair of a short source of the first form.
 fn pair_from(alloc: Global, source: &[u8]) -> Result<Pair, Fail>
     requires { length source.now < 1000 }
+    ensures { IfOk result (λ pair. FitLimits pair.program LIMITS) }
 {
     let Ok(program) = compile_first_form(alloc, source) else {
         return Err(AllocError)?;
@@ -90,7 +92,9 @@ fn run_in(
     pair: &Pair,
     order: Order,
     outlet: &mut MemOutlet,
-) -> Result<Option<[u64; 5]>, AllocError> {
+) -> Result<Option<[u64; 5]>, AllocError>
+    requires { FitLimits pair.now.program LIMITS }
+{
     let mut duo = Duo::start(alloc, pair, Vec::new(alloc), LIMITS)?;
     for number in 0..500 {
         if let Some(ran) = duo.ran() {
@@ -108,7 +112,9 @@ fn gives_the_same(
     order: Order,
     expected: [u64; 5],
     events: &[Event],
-) -> Result<bool, AllocError> {
+) -> Result<bool, AllocError>
+    requires { FitLimits pair.now.program LIMITS }
+{
     let mut outlet = MemOutlet::with_room(alloc, 3)?;
     let numbers = run_in(alloc, pair, order, &mut outlet)?;
     Ok(numbers == Some(expected) && outlet.events() == events)

@@ -1,4 +1,4 @@
-use Rattle.std.proofs.Common.{◌≡◌, ◌+◌, ◌*◌, arith}
+use Rattle.std.proofs.Common.{◌≡◌, ◌*◌, arith}
 use Rattle.srmt_base.specs.Objects.{pointer_to}
 use Rattle.frames.proofs.act.perform.Goals as goal
 

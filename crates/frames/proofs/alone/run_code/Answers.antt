@@ -1,6 +1,5 @@
-use Rattle.std.proofs.Common.{◌≡◌, ◌<◌, [], List, ℕ, sym, subst, length}
+use Rattle.std.proofs.Common.{[], List, ℕ, sym, subst}
 use Rattle.std.specs.Prelude.{slice_index_or}
-use Rattle.mid_code.specs.declared.program.MidLine.{MidLine}
 use Rattle.mid_code.specs.Meaning.{Comes}
 use Rattle.frames.specs.Alone.{state_at}
 use Rattle.frames.proofs.Ready.{ready_at}

@@ -1,9 +1,7 @@
-use Rattle.std.proofs.Common.{◌≡◌, ◌-◌, ◌++◌, ℕ, List, [], length, take, drop, refl, sym, ap, ◌∙◌, subst, arith}
+use Rattle.std.proofs.Common.{◌≡◌, ◌-◌, ◌++◌, length, take, drop, refl, ap, ◌∙◌, arith}
 use Rattle.std.proofs.lemmas.List.{take_all, length-drop, length-take-le}
 use Rattle.frames.proofs.Rows.{row_back}
 use borrow.Rule.Slice.PartMut.{post_of}
-use Rattle.mid_code.specs.Meaning.{Comes}
-use Rattle.frames.specs.Alone.{state_at}
 use Rattle.frames.proofs.frames.run_row.Goals as goal
 
 pub returns-clause-comes : goal.returns-clause-comes

@@ -1,8 +1,7 @@
-use Rattle.std.proofs.Common.{◌≡◌, ◌+◌, ◌-◌, ◌<◌, ◌≤◌, ◌++◌, List, ℕ, length, map, replicate, refl, ap, ◌∙◌, arith, vec_len, vec_capacity, slice_index}
-use Rattle.std.proofs.lemmas.List.{length-map}
+use Rattle.std.proofs.Common.{◌≡◌, ◌+◌, ◌-◌, ◌<◌, ◌++◌, length, replicate, refl, ap, ◌∙◌, arith, vec_len, vec_capacity}
 use Rattle.frames.specs.declared.frames.Line.{Line}
-use Rattle.mid_code.specs.Machine.{Machine, register}
-use Rattle.frames.specs.Kept.{activation_in, depths}
+use Rattle.mid_code.specs.Machine.{Machine}
+use Rattle.frames.specs.Kept.{depths}
 use Rattle.frames.proofs.Rows.{registers_fit, kept_pushed, resized, pushed-rows, pushed-length, small_pushed, activations-length}
 use Rattle.frames.proofs.frames.Frames.push.Goals as goal
 

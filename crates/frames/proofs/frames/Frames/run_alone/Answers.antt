@@ -1,7 +1,5 @@
-use Rattle.std.proofs.Common.{◌≡◌, ◌+◌, ◌≤◌, List, ℕ, [], length, take, drop, refl, sym, ap, ◌∙◌, subst, arith}
-use Rattle.std.specs.Prelude.{All}
+use Rattle.std.proofs.Common.{◌≡◌, drop, sym, ap, ◌∙◌, arith}
 use Rattle.srmt_base.specs.declared.budgets.Budget.{Budget}
-use Rattle.srmt_base.specs.declared.budgets.Budgets.{Budgets}
 use Rattle.srmt_base.specs.Budgets.{budget_of}
 use Rattle.mid_code.specs.Machine.{Machine}
 use Rattle.frames.specs.Kept.{Kept, machine_in, depths}
