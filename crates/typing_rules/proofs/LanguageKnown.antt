@@ -3,7 +3,7 @@ use Rattle.std.proofs.Common.{◌≡◌, ℕ, zero, suc, List, [], ◌∷◌, �
 use Rattle.std.specs.Prelude.{slice_set, bytes_eq}
 use Rattle.c_types.specs.Types.{CType}
 use Rattle.typing_rules.specs.Source.{Bytes}
-use Rattle.typing_rules.specs.Known.{Known, Meaning, Scope, Local, local_at, found_in, or_else, meaning_of, all_scopes, predeclared_scope, addressed, addressed_local, with_type, is_among}
+use Rattle.typing_rules.specs.Known.{Known, Meaning, Scope, Local, Entity, local_at, found_in, or_else, meaning_of, all_scopes, predeclared_scope, addressed, addressed_local, with_type, is_among}
 use Rattle.typing_rules.specs.DeclaratorRules.{parameter_type}
 use Rattle.typing_rules.specs.Laws.{Each}
 use Rattle.typing_rules.specs.LanguageTypes.{IsObjectType}
@@ -16,12 +16,14 @@ pub record Setting : Type 0 where
   pub scopes : List Scope
   pub types : List CType
   pub file_scope : Scope
+  pub entities : List Entity
 
 -- the setting of a place of a program
 pub record At (s : Setting) (k : Known) : Type 0 where
   pub scopes : k.scopes ≡ s.scopes
   pub types : map parameter_type k.locals ≡ s.types
   pub file_scope : k.file_scope ≡ s.file_scope
+  pub entities : k.entities ≡ s.entities
 
 pub record IsGood (s : Setting) : Type 0 where
   pub scopes : Each (IsScope s.types) s.scopes
@@ -33,7 +35,7 @@ abbrev pub IsMeaningIf : List CType → Option Meaning → Type 0
 IsMeaningIf ts None = Unit {0}
 IsMeaningIf ts (Some m) = IsMeaning ts m
 
-found_is : (ts : List CType) (name : Bytes) (scope : Scope) → IsScope ts scope → IsMeaningIf ts (found_in name scope)
+pub found_is : (ts : List CType) (name : Bytes) (scope : Scope) → IsScope ts scope → IsMeaningIf ts (found_in name scope)
 found_is ts name [] h = tt
 found_is ts name (d ∷ rest) h =
     if_has (IsMeaningIf ts) (bytes_eq name d.0) (Some d.1) (found_in name rest) h.0 (found_is ts name rest h.1)
@@ -72,8 +74,8 @@ addressed_types (l ∷ ls) zero = refl
 addressed_types (l ∷ ls) (suc n) = ap (λ ts. parameter_type l ∷ ts) (addressed_types ls n)
 
 pub at_addressed : (s : Setting) (n : ℕ) (k : Known) → At s k → At s (addressed n k)
-at_addressed s n k at = record { scopes = at.scopes; types = addressed_types k.locals n ∙ at.types; file_scope = at.file_scope }
+at_addressed s n k at = record { scopes = at.scopes; types = addressed_types k.locals n ∙ at.types; file_scope = at.file_scope; entities = at.entities }
 
 pub at_type : (s : Setting) (t : CType) (k : Known) → At s k → At s (with_type t k)
 at_type s t k at =
-    if_has (At s) (is_among t k.types) k _ at (record { scopes = at.scopes; types = at.types; file_scope = at.file_scope })
+    if_has (At s) (is_among t k.types) k _ at (record { scopes = at.scopes; types = at.types; file_scope = at.file_scope; entities = at.entities })

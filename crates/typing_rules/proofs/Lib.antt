@@ -28,3 +28,5 @@ pub mod CallsSound
 pub mod DerivedTypes
 pub mod ParametersSound
 pub mod TermsSound
+pub mod InitializersSound
+pub mod BlocksSound

@@ -54,6 +54,7 @@ pub record Among (s : Setting) (k : Known) : Type 0 where
   pub scopes : k.scopes ≡ scope ∷ s.scopes
   pub types : map parameter_type k.locals ≡ s.types ++ added
   pub file_scope : k.file_scope ≡ s.file_scope
+  pub entities : k.entities ≡ s.entities
   pub are : Each IsParameter added
   pub good : IsScope (s.types ++ added) scope
 
@@ -61,12 +62,12 @@ pub sound_among : {A : Type 0} {Q : A → Type 0} {R : Typing A} (s : Setting) �
     → ((inner : Setting) → IsGood inner → Sound (At inner) Q R) → Sound (Among s) Q R
 sound_among s good f = record {
   sound = λ x k l h g.
-      let inner : Setting = record { scopes = g.scope ∷ s.scopes; types = s.types ++ g.added; file_scope = s.file_scope } in
+      let inner : Setting = record { scopes = g.scope ∷ s.scopes; types = s.types ++ g.added; file_scope = s.file_scope; entities = s.entities } in
       let is_good : IsGood inner = record {
         scopes = (g.good, scopes_more s.types g.added s.scopes good.scopes);
         file_scope = scope_more s.types g.added s.file_scope good.file_scope;
       } in
-      let p = (f inner is_good).sound x k l h (record { scopes = g.scopes; types = g.types; file_scope = g.file_scope }) in (
+      let p = (f inner is_good).sound x k l h (record { scopes = g.scopes; types = g.types; file_scope = g.file_scope; entities = g.entities }) in (
         p.0,
         record {
           scope = g.scope;
@@ -74,6 +75,7 @@ sound_among s good f = record {
           scopes = p.1.scopes;
           types = p.1.types;
           file_scope = p.1.file_scope;
+          entities = p.1.entities;
           are = g.are;
           good = g.good;
         },
@@ -85,6 +87,7 @@ record Named_as (n : ℕ) (scope : Scope) (outer : List Scope) (k l : Known) : T
   inner : Scope
   locals : l.locals ≡ k.locals
   file_scope : l.file_scope ≡ k.file_scope
+  entities : l.entities ≡ k.entities
   scopes : l.scopes ≡ inner ∷ outer
   good : (ts : List CType) → IsScope ts scope → IsMeaning ts (known.local n) → IsScope ts inner
 
@@ -94,6 +97,7 @@ named_as None n u k l scope outer e h = record {
   inner = scope;
   locals = ap (λ m. m.locals) h.1;
   file_scope = ap (λ m. m.file_scope) h.1;
+  entities = ap (λ m. m.entities) h.1;
   scopes = ap (λ m. m.scopes) h.1 ∙ e;
   good = λ ts a b. a;
 }
@@ -103,6 +107,7 @@ named_as (Some name) n u k l scope outer e h =
       inner = (name.bytes, known.local n) ∷ scope;
       locals = ap (λ m. m.locals) made;
       file_scope = ap (λ m. m.file_scope) made;
+      entities = ap (λ m. m.entities) made;
       scopes = ap (λ m. m.scopes) made ∙ ap (with_meaning name.bytes (known.local n)) e;
       good = λ ts a b. (b, a);
     }
@@ -136,6 +141,7 @@ sound_parameter s sp base d ds b g = record { sound = λ x k l h among. (tt, go 
           types = ap (λ m. map parameter_type m.locals) h3.second ∙ map-append parameter_type h3.between.locals (own ∷ [])
               ∙ ap (λ ls. map parameter_type ls ++ type.type ∷ []) locals ∙ ap (λ ts. ts ++ type.type ∷ []) among.types ∙ same;
           file_scope = ap (λ m. m.file_scope) h3.second ∙ named.file_scope ∙ ap (λ m. m.file_scope) start ∙ among.file_scope;
+          entities = ap (λ m. m.entities) h3.second ∙ named.entities ∙ ap (λ m. m.entities) start ∙ among.entities;
           are = each_append IsParameter among.added (type.type ∷ []) among.are (p, tt);
           good = subst (λ ts. IsScope ts named.inner) same
               (named.good (all ++ type.type ∷ []) (scope_more all (type.type ∷ []) among.scope among.good) last);
@@ -185,6 +191,7 @@ sound_parameter_list s ps r = sound_either (sound_is tt) (record {
         scopes = ap (λ m. m.scopes) opened ∙ ap (λ scopes. [] ∷ scopes) at.scopes;
         types = ap (λ m. map parameter_type m.locals) opened ∙ at.types ∙ sym (append-nil s.types);
         file_scope = ap (λ m. m.file_scope) opened ∙ at.file_scope;
+        entities = ap (λ m. m.entities) opened ∙ at.entities;
         are = tt;
         good = tt;
       }) in
@@ -200,6 +207,7 @@ sound_parameter_list s ps r = sound_either (sound_is tt) (record {
           types = ap (λ z. map parameter_type z.locals) after ∙ ap (λ z. map parameter_type (take h.of z.locals)) asked
               ∙ ap (λ n. map parameter_type (take n m.locals)) count ∙ taken_types s.types m.locals among.added among.types;
           file_scope = ap (λ z. z.file_scope) after ∙ ap (λ z. z.file_scope) asked ∙ among.file_scope;
+          entities = ap (λ z. z.entities) after ∙ ap (λ z. z.entities) asked ∙ among.entities;
         },
       );
 })

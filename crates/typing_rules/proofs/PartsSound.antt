@@ -78,7 +78,7 @@ unfolding HasTypes
 sound_meant s line None h = sound_never
 sound_meant s line (Some (known.local n)) h = sound_asks (λ k at. (local_is s n k at h, tt))
 sound_meant s line (Some (known.linked n type)) h =
-    sound_bind (sound_makes (λ k at. record { scopes = at.scopes; types = at.types; file_scope = at.file_scope }))
+    sound_bind (sound_makes (λ k at. record { scopes = at.scopes; types = at.types; file_scope = at.file_scope; entities = at.entities }))
     (λ u p. sound_asks (λ k at. linked_has line n type.qualifiers type.type _ h.0 h.1))
 sound_meant s line (Some (known.predeclared p)) h = sound_is (predeclared_has p)
 sound_meant s line (Some (known.constant n)) h = sound_is (integer_is _, tt)
@@ -89,7 +89,7 @@ sound_named s good line bytes =
 
 sound_counted : (s : Setting) (cells : ℕ) → Sound (At s) Any (AreCounted cells)
 sound_counted s cells =
-    sound_bind sound_holds (λ u p. sound_makes (λ k at. record { scopes = at.scopes; types = at.types; file_scope = at.file_scope }))
+    sound_bind sound_holds (λ u p. sound_makes (λ k at. record { scopes = at.scopes; types = at.types; file_scope = at.file_scope; entities = at.entities }))
 
 text_type_is : (n : ℕ) → suc n ≤ most_cells → IsObjectType (text_type n).type
 unfolding IsOfLanguage
@@ -99,7 +99,7 @@ pub sound_text : (s : Setting) (line : ℕ) (bytes : Bytes) → Sound (At s) Ter
 unfolding HasTypes
 sound_text s line bytes =
     sound_bind sound_given (λ u h. sound_bind (sound_counted s (suc (length bytes))) (λ u' p. sound_bind {P = Any} (sound_asks (λ k at. tt)) (λ number p'.
-    sound_bind (sound_makes (λ k at. record { scopes = at.scopes; types = at.types; file_scope = at.file_scope }))
+    sound_bind (sound_makes (λ k at. record { scopes = at.scopes; types = at.types; file_scope = at.file_scope; entities = at.entities }))
     (λ u'' p''. sound_is (text_type_is (length bytes) h, tt)))))
 
 -- ---- operators

@@ -111,14 +111,14 @@ mutual
       sound_bind (sound_parameter s sp base.type d ds p q) (λ u r. sound_parameters s g rest)))
 
 -- the setting of what is known
-abbrev setting_of : Known → Setting
-setting_of k = record { scopes = k.scopes; types = map parameter_type k.locals; file_scope = k.file_scope }
+abbrev pub setting_of : Known → Setting
+setting_of k = record { scopes = k.scopes; types = map parameter_type k.locals; file_scope = k.file_scope; entities = k.entities }
 
-setting_is_good : (k : Known) → KnowsTypes k → IsGood (setting_of k)
+pub setting_is_good : (k : Known) → KnowsTypes k → IsGood (setting_of k)
 setting_is_good k knows = record { scopes = knows.scopes; file_scope = knows.file_scope }
 
-at_itself : (k : Known) → At (setting_of k) k
-at_itself k = record { scopes = refl; types = refl; file_scope = refl }
+pub at_itself : (k : Known) → At (setting_of k) k
+at_itself k = record { scopes = refl; types = refl; file_scope = refl; entities = refl }
 
 pub term_has : (e : Expr) (term : Term) (k l : Known) → KnowsTypes k → IsTerm e term k l → TermHas term
 term_has e term k l knows h = ((sound_term (setting_of k) (setting_is_good k knows) e).sound term k l h (at_itself k)).0
@@ -126,7 +126,7 @@ term_has e term k l knows h = ((sound_term (setting_of k) (setting_is_good k kno
 pub type_named_is : (t : TypeName) (type : Qualified) (k l : Known) → KnowsTypes k → IsTypeNamed t type k l → IsOfLanguage type.type
 type_named_is t type k l knows h = ((sound_type_named (setting_of k) (setting_is_good k knows) t).sound type k l h (at_itself k)).0
 
-knows_still : (k l : Known) → At (setting_of k) l → KnowsTypes k → KnowsTypes l
+pub knows_still : (k l : Known) → At (setting_of k) l → KnowsTypes k → KnowsTypes l
 knows_still k l same knows = record {
   scopes = subst (λ ts. Each (IsScope ts) l.scopes) (sym same.types) (subst (Each (IsScope (map parameter_type k.locals))) (sym same.scopes) knows.scopes);
   file_scope = subst (λ ts. IsScope ts l.file_scope) (sym same.types) (subst (IsScope (map parameter_type k.locals)) (sym same.file_scope) knows.file_scope);

@@ -41,3 +41,4 @@ pub mod Exact
 pub mod LanguageTypes
 pub mod Laws
 pub mod LanguageTerms
+pub mod LanguagePrograms
