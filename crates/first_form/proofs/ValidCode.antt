@@ -15,7 +15,7 @@ use Rattle.mid_code.specs.declared.mid.Mid.TheVariants.{Const, Conv, Put, Exit}
 use Rattle.mid_code.specs.declared.field.Field.TheVariants.{Value}
 use Rattle.mid_code.specs.Fields.{fields}
 use Rattle.mid_code.specs.Ways.{is_final}
-use Rattle.mid_code.specs.Flow.{goes_to, is_target, open_behind, entry, entered_by, found_at, same_places, has_others, closes_wrongly, enters_wrongly, breaks_order_by, breaks_order}
+use Rattle.mid_code.specs.Flow.{goes_to, is_target, open_behind, open_into, entered_by, found_at, same_places, has_others, closes_wrongly, enters_wrongly, breaks_order_by, breaks_order}
 use Rattle.mid_code.specs.Rules.{breaks_function, broken, field_rule, lesser, fields_rule, runs_out, misfits, misfits_params, early_rule, instruction_rule, line_rule, function_rule, rule_broken}
 use Rattle.mid_code.specs.Valid.{IsValid}
 use Rattle.mid_code.specs.declared.class.Shared.{Shared}
@@ -95,7 +95,7 @@ other_place form mid place target ours other = by_way ours.way
     by_way (inl leads) = ap (list_any (λ next. next == target)) (leads.next place) ∙ ap (λ b. b || false) (ne_eqb (place + 1) target other)
     by_way (inr exit) = ap (λ x. is_target place x target) exit
 
-no_entry : (form : FirstForm) (place target : ℕ) (found : Option (List ℕ)) (line : Option MidLine) → ((l : MidLine) → line ≡ Some l → IsOurs form l.mid) → place + 1 ≢ target → entry target place found line ≡ None
+no_entry : (form : FirstForm) (place target : ℕ) (found : Option (List ℕ)) (line : Option MidLine) → ((l : MidLine) → line ≡ Some l → IsOurs form l.mid) → place + 1 ≢ target → open_into target place found line ≡ None
 no_entry form place target None line ours other = refl
 no_entry form place target (Some found) None ours other = refl
 no_entry form place target (Some found) (Some l) ours other = ap (λ b. if b then Some (open_behind place l.mid found) else None) (other_place form l.mid place target (ours l refl) other)
@@ -119,7 +119,7 @@ found_next form code place l found ours at here leads =
     let e : place + 1 ≡ suc place = omega arith in
     let before : entered_by code place (suc place) ≡ None = not_before form code ours place (suc place) (omega arith) in
     let goes : is_target place l.mid (suc place) ≡ true = ap (list_any (λ next. next == suc place)) (leads.next place) ∙ ap (λ b. b || false) (eq-eqb (place + 1) (suc place) (omega arith)) in
-    let step : entry (suc place) place (Some found) (Some l) ≡ Some found = ap (λ b. if b then Some (open_behind place l.mid found) else None) goes ∙ ap Some (leads.keeps place found) in
+    let step : open_into (suc place) place (Some found) (Some l) ≡ Some found = ap (λ b. if b then Some (open_behind place l.mid found) else None) goes ∙ ap Some (leads.keeps place found) in
     rw (e, before, here, at) step
 
 in_order : (form : FirstForm) (code : List MidLine) (place : ℕ) (l : MidLine) → AreOurs form code → slice_get code place ≡ Some l → breaks_order code place l.mid ≡ false
