@@ -32,10 +32,6 @@ same_numbers code n m (x ∷ xs) (y ∷ ys) sa sb e =
     let r : xs ≡ ys = cc in
     ap (λ z. z ∷ xs) h ∙ ap (λ zs. y ∷ zs) r
 
-and_true : (a b : Bool) → (a && b) ≡ true → (a ≡ true) × (b ≡ true)
-and_true true b h = (refl, h)
-and_true false b h = absurd (cc)
-
 pub same_refl : (a : List ℕ) → same_places a a ≡ true
 same_refl [] = refl
 same_refl (x ∷ xs) = ap (λ b. b && same_places xs xs) (eq-eqb x x refl) ∙ same_refl xs
