@@ -61,12 +61,13 @@ step_of program line s (Tells events) = On (record s { machine = with_top (passe
 step_of program line s (EndsRun status events) = Ends (ExitEnd status) events
 
 -- a value that is given: no budget is passed, it fits a register, and the input stays bytes
-pub record IsGiven (program : MidProgram) (s : State) (access : Access) (target : ℕ) (events : List Event) (value : Result ℕ Trap) (input : List ℕ) : Type 0 where
-  pub other : IfErr value IsOther
+pub record IsGiven (program : MidProgram) (s : State) (access : Access) (target : ℕ) (events : List Event) (given_value : Result ℕ Trap) (input : List ℕ) :
+    Type 0 where
+  pub other : IfErr given_value IsOther
   pub one : length events ≤ 1
-  pub small : Fits program s → IfOk value IsValue
+  pub small : Fits program s → IfOk given_value IsValue
   pub bytes : All (λ byte. byte < 256) s.input → All (λ byte. byte < 256) input
-  pub within : AccessFits program s.machine.top access → (given_value : ℕ) → IsValue given_value → IsWithin program (given target given_value s.machine.top)
+  pub within : AccessFits program s.machine.top access → (value : ℕ) → IsValue value → IsWithin program (given target value s.machine.top)
 
 -- a write: no budget is passed, and memory keeps its numbers, its values and its budgets
 pub record IsWrite (program : MidProgram) (s : State) (access : Access) (events : List Event) (memory : Result Memory Trap) : Type 0 where
@@ -81,7 +82,8 @@ abbrev pub Holds : MidProgram → State → Access → Shape → Type 0
 Holds program s access (GivesValue target events value input) = IsGiven program s access target events value input
 Holds program s access (Writes events memory) = IsWrite program s access events memory
 Holds program s access (BeginsObject target cells) = access ≡ Opens target cells
-Holds program s access (EndsObject number) = AccessFits program s.machine.top access → (1 ≤ length s.machine.top.opened) × IsWithin program (passed_close s.machine.top)
+Holds program s access (EndsObject number) =
+    AccessFits program s.machine.top access → (1 ≤ length s.machine.top.opened) × IsWithin program (passed_close s.machine.top)
 Holds program s access (Tells events) = (length events ≤ 1) × (AccessFits program s.machine.top access → IsWithin program (passed s.machine.top))
 Holds program s access (EndsRun status events) = length events ≤ 1
 
