@@ -39,7 +39,7 @@ pub data Shape : Type 0 where
   -- memory or the input gives a value, which a register takes, and leaves so much input
   GivesValue : (target : ℕ) (events : List Event) (value : Result ℕ Trap) (input : List ℕ) → Shape
   -- memory changes, as in a write
-  Writes : (events : List Event) (memory : Result Memory Trap) → Shape
+  WritesMemory : (events : List Event) (memory : Result Memory Trap) → Shape
   -- an object begins, whose address a register takes
   BeginsObject : (target cells : ℕ) → Shape
   -- the newest object of the activation ends
@@ -52,7 +52,7 @@ pub data Shape : Type 0 where
 -- the step of a shape
 abbrev pub step_of : MidProgram → ℕ → State → Shape → Step
 step_of program line s (GivesValue target events value input) = after_read target line events (record s { input = input }) value
-step_of program line s (Writes events memory) = after_write line events s memory
+step_of program line s (WritesMemory events memory) = after_write line events s memory
 step_of program line s (BeginsObject target cells) =
     after_begin target line (next_number (own_part program s) s.memory) s (begin_of (own_part program s) s.memory cells)
 step_of program line s (EndsObject number) =
@@ -78,20 +78,20 @@ pub record IsWrite (program : MidProgram) (s : State) (access : Access) (events 
   pub within : AccessFits program s.machine.top access → IsWithin program (passed s.machine.top)
 
 -- what holds of an access of a shape
-abbrev pub Holds : MidProgram → State → Access → Shape → Type 0
-Holds program s access (GivesValue target events value input) = IsGiven program s access target events value input
-Holds program s access (Writes events memory) = IsWrite program s access events memory
-Holds program s access (BeginsObject target cells) = access ≡ Opens target cells
-Holds program s access (EndsObject number) =
+abbrev pub ShapeHolds : MidProgram → State → Access → Shape → Type 0
+ShapeHolds program s access (GivesValue target events value input) = IsGiven program s access target events value input
+ShapeHolds program s access (WritesMemory events memory) = IsWrite program s access events memory
+ShapeHolds program s access (BeginsObject target cells) = access ≡ Opens target cells
+ShapeHolds program s access (EndsObject number) =
     AccessFits program s.machine.top access → (1 ≤ length s.machine.top.opened) × IsWithin program (passed_close s.machine.top)
-Holds program s access (Tells events) = (length events ≤ 1) × (AccessFits program s.machine.top access → IsWithin program (passed s.machine.top))
-Holds program s access (EndsRun status events) = length events ≤ 1
+ShapeHolds program s access (Tells events) = (length events ≤ 1) × (AccessFits program s.machine.top access → IsWithin program (passed s.machine.top))
+ShapeHolds program s access (EndsRun status events) = length events ≤ 1
 
 -- an access has a shape
 pub record Shaped (program : MidProgram) (s : State) (line : ℕ) (access : Access) : Type 0 where
   pub shape : Shape
   pub is : reach program access line s ≡ step_of program line s shape
-  pub holds : Holds program s access shape
+  pub holds : ShapeHolds program s access shape
 
 module _ (program : MidProgram) (s : State) (line : ℕ) where
   read_shaped : (target pointer : ℕ) (events : List Event) (access : Access) → length events ≤ 1 →
@@ -132,7 +132,7 @@ module _ (program : MidProgram) (s : State) (line : ℕ) where
     holds = read_shaped target pointer [] (Loads target pointer) (omega arith) (λ a. a.1);
   }
   shaped (Stores pointer value) = record {
-    shape = Writes [] (write_of s.memory pointer value);
+    shape = WritesMemory [] (write_of s.memory pointer value);
     is = refl;
     holds = write_shaped pointer value [] (Stores pointer value) (omega arith) (λ a. (a.1, a.2));
   }
@@ -146,7 +146,7 @@ module _ (program : MidProgram) (s : State) (line : ℕ) where
   shaped (VolatileStores pointer value) =
       let events = PortWrite (object_part pointer) (offset_part pointer) value ∷ [] in
       record {
-        shape = Writes events (write_of s.memory pointer value);
+        shape = WritesMemory events (write_of s.memory pointer value);
         is = refl;
         holds = write_shaped pointer value events (VolatileStores pointer value) (omega arith) (λ a. (a.1, a.2));
       }

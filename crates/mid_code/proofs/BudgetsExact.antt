@@ -22,7 +22,7 @@ use Rattle.mid_code.specs.Laws.{CanRun, HasExactBudgets}
 use Rattle.mid_code.proofs.Naming.{not_zero, whole}
 use Rattle.mid_code.proofs.StartFits.{main_function, main_part}
 use Rattle.mid_code.proofs.OtherTraps.{is_counted, IsOther, uncounted, begin_store}
-use Rattle.mid_code.proofs.AccessShapes.{Shape, GivesValue, Writes, BeginsObject, EndsObject, Tells, EndsRun, step_of, Holds, shaped}
+use Rattle.mid_code.proofs.AccessShapes.{Shape, GivesValue, WritesMemory, BeginsObject, EndsObject, Tells, EndsRun, step_of, ShapeHolds, shaped}
 use Rattle.mid_code.proofs.MemoryKept.{HasCells}
 use Rattle.mid_code.proofs.StoreTraps.{cells_after, store_forward, store_back}
 use Rattle.mid_code.proofs.InstructionsCounted.{Quiet, Counted, does_counted}
@@ -98,9 +98,9 @@ module _ (program : MidProgram) (s : State) where
   return_ends None = tt
 
   -- one case for each shape of an access
-  shape_ends : (access : Access) (line : ℕ) (shape : Shape) → Holds program s access shape → EndsOther (step_of program line s shape)
+  shape_ends : (access : Access) (line : ℕ) (shape : Shape) → ShapeHolds program s access shape → EndsOther (step_of program line s shape)
   shape_ends access line (GivesValue target events value input) h = read_ends target line events (record s { input = input }) value h.other
-  shape_ends access line (Writes events memory) h = write_ends line events memory h.other
+  shape_ends access line (WritesMemory events memory) h = write_ends line events memory h.other
   shape_ends access line (BeginsObject target cells) h =
       begin_ends target line (next_number (own_part program s) s.memory) (begin_of (own_part program s) s.memory cells) (begin_store s.memory (own_part program s) cells)
   shape_ends access line (EndsObject number) h = tt

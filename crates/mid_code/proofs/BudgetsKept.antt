@@ -18,7 +18,7 @@ use Rattle.mid_code.specs.Meaning.{State, Step, On, Ends, Stuck, after_read, aft
 use Rattle.mid_code.specs.Counting.{Counting, Uncounted, OneTurn, OneActivation, next_counting, turns_of}
 use Rattle.mid_code.proofs.Naming.{not_zero}
 use Rattle.mid_code.proofs.MachineFits.{live_same, live_more}
-use Rattle.mid_code.proofs.AccessShapes.{Shape, GivesValue, Writes, BeginsObject, EndsObject, Tells, EndsRun, step_of, shaped}
+use Rattle.mid_code.proofs.AccessShapes.{Shape, GivesValue, WritesMemory, BeginsObject, EndsObject, Tells, EndsRun, step_of, shaped}
 use Rattle.mid_code.proofs.InstructionsCounted.{Quiet, Counted, CallsOne, does_counted}
 
 -- a part's budgets after a step that counts so much
@@ -82,7 +82,7 @@ module _ (program : MidProgram) (s : State) where
   -- one case for each shape of an access
   shape_on : (line : ℕ) (shape : Shape) → IfGoesOn program s.machine Uncounted (step_of program line s shape)
   shape_on line (GivesValue target events value input) = read_on target line events input value
-  shape_on line (Writes events memory) = write_on line events memory
+  shape_on line (WritesMemory events memory) = write_on line events memory
   shape_on line (BeginsObject target cells) =
       begin_on target line (next_number (own_part program s) s.memory) (begin_of (own_part program s) s.memory cells)
   shape_on line (EndsObject number) = top_on (passed_close s.machine.top) refl

@@ -15,7 +15,7 @@ use Rattle.mid_code.specs.Meaning.{State, Step, On, Ends, Stuck, Run, Running, E
 use Rattle.mid_code.specs.Fits.{IsValue, IsWithin, IsMachine, Fits, open_count}
 use Rattle.mid_code.proofs.MemoryKept.{AfterWrite, AfterBegin, began, finished}
 use Rattle.mid_code.proofs.MachineFits.{EntryFits, ReturnFits, top_changed, local_fits, entry_cases, enter_fits, returned_fits}
-use Rattle.mid_code.proofs.AccessShapes.{AccessFits, Shape, GivesValue, Writes, BeginsObject, EndsObject, Tells, EndsRun, step_of, Holds, shaped}
+use Rattle.mid_code.proofs.AccessShapes.{AccessFits, Shape, GivesValue, WritesMemory, BeginsObject, EndsObject, Tells, EndsRun, step_of, ShapeHolds, shaped}
 use Rattle.mid_code.proofs.InstructionsFit.{DoesFit, Waits, does_fits}
 
 -- a step leads to a state that fits, or ends the run
@@ -93,10 +93,10 @@ module _ (program : MidProgram) (s : State) (h : Fits program s) where
       }
 
   -- one case for each shape of an access
-  shape_fits : (access : Access) (line : ℕ) (shape : Shape) → Holds program s access shape → AccessFits program s.machine.top access →
+  shape_fits : (access : Access) (line : ℕ) (shape : Shape) → ShapeHolds program s access shape → AccessFits program s.machine.top access →
       IsSound program (step_of program line s shape)
   shape_fits access line (GivesValue target events value input) k a = read_fits target line events input value (k.small h) (k.bytes h.input) (k.within a)
-  shape_fits access line (Writes events memory) k a = write_fits line events memory (k.kept h a) (k.within a)
+  shape_fits access line (WritesMemory events memory) k a = write_fits line events memory (k.kept h a) (k.within a)
   shape_fits access line (BeginsObject target cells) k a =
       let own = own_part program s in
       let b : AccessFits program s.machine.top (Opens target cells) = subst (AccessFits program s.machine.top) k a in

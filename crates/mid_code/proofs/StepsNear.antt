@@ -16,7 +16,7 @@ use Rattle.mid_code.specs.Meaning.{State, Step, On, Ends, Stuck, after_read, aft
 use Rattle.mid_code.specs.Bounds.{to_turn, all_to_turn, left_to_go, Nears}
 use Rattle.mid_code.specs.Fits.{IsMachine, Fits}
 use Rattle.mid_code.proofs.MachineFits.{entry_cases, enter_spends, begins}
-use Rattle.mid_code.proofs.AccessShapes.{Shape, GivesValue, Writes, BeginsObject, EndsObject, Tells, EndsRun, step_of, Holds, shaped}
+use Rattle.mid_code.proofs.AccessShapes.{Shape, GivesValue, WritesMemory, BeginsObject, EndsObject, Tells, EndsRun, step_of, ShapeHolds, shaped}
 use Rattle.mid_code.proofs.InstructionsFit.{DoesFit, Waits, few_to_turn, does_fits}
 
 -- a step leaves fewer steps to go, with at most one event
@@ -50,10 +50,10 @@ module _ (program : MidProgram) (s : State) where
   begin_nears target line number (Err trap) near = omega arith
 
   -- one case for each shape of an access
-  shape_nears : (access : Access) (line : ℕ) (shape : Shape) → Holds program s access shape → IsNear → StepNears program s (step_of program line s shape)
+  shape_nears : (access : Access) (line : ℕ) (shape : Shape) → ShapeHolds program s access shape → IsNear → StepNears program s (step_of program line s shape)
   unfolding IsNear
   shape_nears access line (GivesValue target events value input) h near = read_nears target line events input value near h.one
-  shape_nears access line (Writes events memory) h near = write_nears line events memory near h.one
+  shape_nears access line (WritesMemory events memory) h near = write_nears line events memory near h.one
   shape_nears access line (BeginsObject target cells) h near =
       begin_nears target line (next_number (own_part program s) s.memory) (begin_of (own_part program s) s.memory cells) near
   shape_nears access line (EndsObject number) h near = (top_nearer (passed_close s.machine.top) near, omega arith)

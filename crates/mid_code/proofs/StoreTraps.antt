@@ -25,7 +25,7 @@ use Rattle.mid_code.specs.Machine.{Activation, Machine, Does, Goes, Calls, Leave
 use Rattle.mid_code.specs.Meaning.{State, Step, On, Ends, Stuck, Run, Running, Ended, NoWay, after_read, after_write, after_begin, after_call, after_return, own_part, reach, step, step_by, preceded, then_run, exec, started}
 use Rattle.mid_code.proofs.OtherTraps.{IsOther}
 use Rattle.mid_code.proofs.MemoryKept.{HasCells, kept_part}
-use Rattle.mid_code.proofs.AccessShapes.{Shape, GivesValue, Writes, BeginsObject, EndsObject, Tells, EndsRun, step_of, Holds, shaped}
+use Rattle.mid_code.proofs.AccessShapes.{Shape, GivesValue, WritesMemory, BeginsObject, EndsObject, Tells, EndsRun, step_of, ShapeHolds, shaped}
 use Rattle.mid_code.proofs.InstructionsCounted.{OpensBy, not_store, act_opens}
 
 begin_kept : (budget : ℕ) (memory : Memory) (part : Part) (cells : ℕ) (r : Result Count Trap) → HasCells budget memory →
@@ -55,9 +55,9 @@ module _ (budget : ℕ) (program : MidProgram) (s : State) (h : HasCells budget 
   begin_cells target line number (Err trap) k = tt
 
   -- one case for each shape of an access
-  shape_cells : (access : Access) (line : ℕ) (shape : Shape) → Holds program s access shape → IfCells budget (step_of program line s shape)
+  shape_cells : (access : Access) (line : ℕ) (shape : Shape) → ShapeHolds program s access shape → IfCells budget (step_of program line s shape)
   shape_cells access line (GivesValue target events value input) k = read_cells target line events input value
-  shape_cells access line (Writes events memory) k = write_cells line events memory (k.cells budget h)
+  shape_cells access line (WritesMemory events memory) k = write_cells line events memory (k.cells budget h)
   shape_cells access line (BeginsObject target cells) k =
       let part = own_part program s in
       begin_cells target line (next_number part s.memory) (begin_of part s.memory cells) (begin_kept budget s.memory part cells _ h)
@@ -213,10 +213,10 @@ module _ (budget : ℕ) (program : MidProgram) (s : State) (line : ℕ) (h : Has
       (target, cells, ap (λ n. Some (record { line = n; mid = l.mid })) where_it_is ∙ ap (λ m. Some (record { line = line; mid = m })) o.0, done.1)
 
   -- of the shapes only the beginning of an object is
-  shape_forward : (l : MidLine) (access : Access) (at : ℕ) (shape : Shape) → Holds program s access shape → OpensBy l.mid l.line (Reaches access at) →
+  shape_forward : (l : MidLine) (access : Access) (at : ℕ) (shape : Shape) → ShapeHolds program s access shape → OpensBy l.mid l.line (Reaches access at) →
       step_of program at s shape ≡ Ends (TrapEnd StoreTrap line) [] → OpensPast budget program s line (Some l)
   shape_forward l access at (GivesValue target events value input) k o e = absurd (read_by s at target events input value k.other line e)
-  shape_forward l access at (Writes events memory) k o e = absurd (write_by s at events memory k.other line e)
+  shape_forward l access at (WritesMemory events memory) k o e = absurd (write_by s at events memory k.other line e)
   shape_forward l access at (BeginsObject target cells) k o e =
       begin_forward l target cells at (subst (λ a. OpensBy l.mid l.line (Reaches a at)) k o) e
   shape_forward l access at (EndsObject number) k o e = absurd (cc)
