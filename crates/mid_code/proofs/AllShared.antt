@@ -85,7 +85,8 @@ closed_of program number f parameters rules = record {
   each = λ place l at. keeps_all program number f place l.line l.mid at (rules place l at);
 }
 
-taken_get : {X : Type 0} (n : ℕ) (xs : List X) (k : ℕ) (x : X) → slice_get (take n xs) k ≡ Some x → slice_get xs k ≡ Some x
+-- what stands among the first of a list stands in the list, at the same index
+pub taken_get : {X : Type 0} (n : ℕ) (xs : List X) (k : ℕ) (x : X) → slice_get (take n xs) k ≡ Some x → slice_get xs k ≡ Some x
 taken_get zero xs k x at = absurd (cc)
 taken_get (suc n) [] k x at = absurd (cc)
 taken_get (suc n) (y ∷ ys) zero x at = at

@@ -10,10 +10,9 @@ use Rattle.srmt_base.specs.declared.trap.Trap.{Trap}
 use Rattle.srmt_base.specs.declared.trap.Trap.TheVariants.{Turns, Depth, Store as StoreTrap}
 use Rattle.srmt_base.specs.declared.trap.SourceEnd.TheVariants.{Exit as ExitEnd, Trap as TrapEnd}
 use Rattle.srmt_base.specs.Budgets.{budget_of}
-use Rattle.srmt_base.specs.Memory.{Memory, read_of, write_of, begin_of, next_number}
+use Rattle.srmt_base.specs.Memory.{Memory, begin_of, next_number}
 use Rattle.mid_code.specs.declared.program.MidProgram.{MidProgram}
 use Rattle.mid_code.specs.declared.access.Access.{Access}
-use Rattle.mid_code.specs.declared.access.Access.TheVariants.{Loads, Stores, VolatileLoads, VolatileStores, Opens, Closes, Puts, Gets, Exits}
 use Rattle.mid_code.specs.Program.{function_at}
 use Rattle.mid_code.specs.Machine.{Activation, Machine, Does, Goes, Calls, Leaves, Traps, Reaches, Lost, activations, one_if, live_of, part_of_function, local_of, waiting, returned, does}
 use Rattle.mid_code.specs.Meaning.{State, Step, On, Ends, Stuck, Run, Running, Ended, NoWay, if_on, after_read, after_write, after_begin, after_return, own_part, reach, step, step_by, preceded, then_run, exec, started}
@@ -22,8 +21,10 @@ use Rattle.mid_code.specs.Counting.{Counting, Uncounted, OneTurn, OneActivation,
 use Rattle.mid_code.specs.Laws.{CanRun, HasExactBudgets}
 use Rattle.mid_code.proofs.Naming.{not_zero, whole}
 use Rattle.mid_code.proofs.StartFits.{main_function, main_part}
-use Rattle.mid_code.proofs.OtherTraps.{is_counted, IsOther, uncounted, read_other, write_other, begin_store}
-use Rattle.mid_code.proofs.StoreTraps.{HasCells, cells_after, store_forward, store_back}
+use Rattle.mid_code.proofs.OtherTraps.{is_counted, IsOther, uncounted, begin_store}
+use Rattle.mid_code.proofs.AccessShapes.{Shape, GivesValue, WritesMemory, BeginsObject, EndsObject, Tells, EndsRun, step_of, ShapeHolds, shaped}
+use Rattle.mid_code.proofs.MemoryKept.{HasCells}
+use Rattle.mid_code.proofs.StoreTraps.{cells_after, store_forward, store_back}
 use Rattle.mid_code.proofs.InstructionsCounted.{Quiet, Counted, does_counted}
 use Rattle.mid_code.proofs.BudgetsKept.{AfterCount, IfGoesOn, tested, turned, lost_call, call_tests, turn_tests, step_goes}
 
@@ -80,9 +81,9 @@ EndsOther (Ends (ExitEnd status) events) = Unit {0}
 EndsOther Stuck = Unit {0}
 
 module _ (program : MidProgram) (s : State) where
-  read_ends : (target line : ℕ) (events : List Event) (r : Result ℕ Trap) → IfErr r IsOther → EndsOther (after_read target line events s r)
-  read_ends target line events (Ok value) h = tt
-  read_ends target line events (Err trap) h = uncounted trap h
+  read_ends : (target line : ℕ) (events : List Event) (next : State) (r : Result ℕ Trap) → IfErr r IsOther → EndsOther (after_read target line events next r)
+  read_ends target line events next (Ok value) h = tt
+  read_ends target line events next (Err trap) h = uncounted trap h
 
   write_ends : (line : ℕ) (events : List Event) (r : Result Memory Trap) → IfErr r IsOther → EndsOther (after_write line events s r)
   write_ends line events (Ok memory) h = tt
@@ -96,18 +97,20 @@ module _ (program : MidProgram) (s : State) where
   return_ends (Some machine) = tt
   return_ends None = tt
 
-  -- one case for each access
-  reach_ends : (access : Access) (line : ℕ) → EndsOther (reach program access line s)
-  reach_ends (Loads target pointer) line = read_ends target line [] (read_of s.memory pointer) (read_other s.memory pointer)
-  reach_ends (Stores pointer value) line = write_ends line [] (write_of s.memory pointer value) (write_other s.memory pointer value)
-  reach_ends (VolatileLoads target pointer) line = read_ends target line _ (read_of s.memory pointer) (read_other s.memory pointer)
-  reach_ends (VolatileStores pointer value) line = write_ends line _ (write_of s.memory pointer value) (write_other s.memory pointer value)
-  reach_ends (Opens target cells) line =
+  -- one case for each shape of an access
+  shape_ends : (access : Access) (line : ℕ) (shape : Shape) → ShapeHolds program s access shape → EndsOther (step_of program line s shape)
+  shape_ends access line (GivesValue target events value input) h = read_ends target line events (record s { input = input }) value h.other
+  shape_ends access line (WritesMemory events memory) h = write_ends line events memory h.other
+  shape_ends access line (BeginsObject target cells) h =
       begin_ends target line (next_number (own_part program s) s.memory) (begin_of (own_part program s) s.memory cells) (begin_store s.memory (own_part program s) cells)
-  reach_ends (Closes number) line = tt
-  reach_ends (Puts value) line = tt
-  reach_ends (Gets target) line = tt
-  reach_ends (Exits value) line = tt
+  shape_ends access line (EndsObject number) h = tt
+  shape_ends access line (Tells events) h = tt
+  shape_ends access line (EndsRun status events) h = tt
+
+  reach_ends : (access : Access) (line : ℕ) → EndsOther (reach program access line s)
+  reach_ends access line =
+      let found = shaped program s line access in
+      subst EndsOther (sym found.is) (shape_ends access line found.shape found.holds)
 
   quiet_ends : (d : Does) → Quiet program (local_of program s.machine) d → EndsOther (step_by program d s)
   quiet_ends (Goes next) h = tt

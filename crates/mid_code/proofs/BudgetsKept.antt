@@ -9,16 +9,16 @@ use Rattle.srmt_base.specs.declared.part.Part.TheVariants.{Protected, Binary}
 use Rattle.srmt_base.specs.declared.trap.Trap.{Trap}
 use Rattle.srmt_base.specs.declared.trap.Trap.TheVariants.{Turns, Depth}
 use Rattle.srmt_base.specs.Budgets.{budget_of, with_budget, with_result, after_turn, spent, leave_of}
-use Rattle.srmt_base.specs.Memory.{Memory, read_of, write_of, begin_of, next_number}
+use Rattle.srmt_base.specs.Memory.{Memory, begin_of, next_number}
 use Rattle.mid_code.specs.declared.program.MidProgram.{MidProgram}
 use Rattle.mid_code.specs.declared.access.Access.{Access}
-use Rattle.mid_code.specs.declared.access.Access.TheVariants.{Loads, Stores, VolatileLoads, VolatileStores, Opens, Closes, Puts, Gets, Exits}
 use Rattle.mid_code.specs.Program.{function_at}
 use Rattle.mid_code.specs.Machine.{Activation, Local, Machine, Does, Goes, Calls, Leaves, Traps, Reaches, Lost, activations, live_of, passed, given, given_object, passed_close, counts, part_of_function, local_of, with_local, with_top, waiting, activation_of, entry_by, entry_in, enter, resumed, returned_to, does}
 use Rattle.mid_code.specs.Meaning.{State, Step, On, Ends, Stuck, after_read, after_write, after_begin, after_call, after_return, own_part, reach, step, step_by}
 use Rattle.mid_code.specs.Counting.{Counting, Uncounted, OneTurn, OneActivation, next_counting, turns_of}
 use Rattle.mid_code.proofs.Naming.{not_zero}
 use Rattle.mid_code.proofs.MachineFits.{live_same, live_more}
+use Rattle.mid_code.proofs.AccessShapes.{Shape, GivesValue, WritesMemory, BeginsObject, EndsObject, Tells, EndsRun, step_of, shaped}
 use Rattle.mid_code.proofs.InstructionsCounted.{Quiet, Counted, CallsOne, does_counted}
 
 -- a part's budgets after a step that counts so much
@@ -66,9 +66,10 @@ module _ (program : MidProgram) (s : State) where
         depth = omega (arith, ap (λ (b : Budget). b.depth) same, live_same program part s.machine.top next.at s.machine.below h.1);
       }
 
-  read_on : (target line : ℕ) (events : List Event) (r : Result ℕ Trap) → IfGoesOn program s.machine Uncounted (after_read target line events s r)
-  read_on target line events (Ok value) = top_on (given target value s.machine.top) refl
-  read_on target line events (Err trap) = tt
+  read_on : (target line : ℕ) (events : List Event) (input : List ℕ) (r : Result ℕ Trap) →
+      IfGoesOn program s.machine Uncounted (after_read target line events (record s { input = input }) r)
+  read_on target line events input (Ok value) = top_on (given target value s.machine.top) refl
+  read_on target line events input (Err trap) = tt
 
   write_on : (line : ℕ) (events : List Event) (r : Result Memory Trap) → IfGoesOn program s.machine Uncounted (after_write line events s r)
   write_on line events (Ok memory) = top_on (passed s.machine.top) refl
@@ -78,18 +79,20 @@ module _ (program : MidProgram) (s : State) where
   begin_on target line number (Ok memory) = top_on (given_object target number s.machine.top) refl
   begin_on target line number (Err trap) = tt
 
-  -- one case for each access
-  reach_on : (access : Access) (line : ℕ) → IfGoesOn program s.machine Uncounted (reach program access line s)
-  reach_on (Loads target pointer) line = read_on target line [] (read_of s.memory pointer)
-  reach_on (Stores pointer value) line = write_on line [] (write_of s.memory pointer value)
-  reach_on (VolatileLoads target pointer) line = read_on target line _ (read_of s.memory pointer)
-  reach_on (VolatileStores pointer value) line = write_on line _ (write_of s.memory pointer value)
-  reach_on (Opens target cells) line =
+  -- one case for each shape of an access
+  shape_on : (line : ℕ) (shape : Shape) → IfGoesOn program s.machine Uncounted (step_of program line s shape)
+  shape_on line (GivesValue target events value input) = read_on target line events input value
+  shape_on line (WritesMemory events memory) = write_on line events memory
+  shape_on line (BeginsObject target cells) =
       begin_on target line (next_number (own_part program s) s.memory) (begin_of (own_part program s) s.memory cells)
-  reach_on (Closes number) line = top_on (passed_close s.machine.top) refl
-  reach_on (Puts value) line = top_on (passed s.machine.top) refl
-  reach_on (Gets target) line = λ part. top_on (given target _ s.machine.top) refl part
-  reach_on (Exits value) line = tt
+  shape_on line (EndsObject number) = top_on (passed_close s.machine.top) refl
+  shape_on line (Tells events) = top_on (passed s.machine.top) refl
+  shape_on line (EndsRun status events) = tt
+
+  reach_on : (access : Access) (line : ℕ) → IfGoesOn program s.machine Uncounted (reach program access line s)
+  reach_on access line =
+      let found = shaped program s line access in
+      subst (IfGoesOn program s.machine Uncounted) (sym found.is) (shape_on line found.shape)
 
   -- a call of no function does not go on
   pub lost_call : (function : ℕ) (args : List ℕ) (into : ℕ) (callers : List Activation) (budgets : Budgets) → function_at program function ≡ None →

@@ -10,7 +10,7 @@ use Rattle.mid_code.specs.declared.program.MidProgram.{MidProgram}
 use Rattle.mid_code.specs.declared.refusal.MidRefusal.{MidRefusal}
 use Rattle.mid_code.specs.Flow.{entered_by}
 use Rattle.mid_code.specs.Row.{number_of, Holds}
-use Rattle.mid_code.specs.Rules.{has_large_type, has_bad_parts, has_bad_statics, breaks_program, has_bad_type, breaks_function, line_rule, function_rule, rule_broken}
+use Rattle.mid_code.specs.Rules.{has_large_type, has_bad_parts, has_bad_statics, breaks_program, breaks_function, line_rule, function_rule, rule_broken}
 use Rattle.mid_code.specs.Valid.{IsValid, IsFirstBroken, IsSoundFunction, IsFirstIn}
 
 -- at the start of a pass the first place is reached with nothing open
@@ -36,11 +36,6 @@ five true b c d e h = absurd (cc)
 
 not_more : (a b : ℕ) → nat_lt a b ≡ false → b ≤ a
 not_more a b h = grind (arith, nat_tests)
-
-pub code_limit : (program : MidProgram) (number : ℕ) (f : MidFunction) → breaks_function program number f ≡ false → length f.code ≤ 65535
-code_limit program number f h =
-    not_more 65535 (length f.code)
-    (five (length f.kinds == 0) (nat_lt 1024 (length f.kinds)) (length f.code == 0) (nat_lt 65535 (length f.code)) (has_bad_type (number == program.main) f (slice_get program.types f.ty)) h).3
 
 -- a program of few enough functions has numbers of 16 bits for them
 four : (a b c d : Bool) → (a || b || c || d) ≡ false → (a ≡ false) × (b ≡ false) × (c ≡ false) × (d ≡ false)
@@ -71,17 +66,6 @@ rule_past program number place f h past =
     ∙ elim (slice_get_cases f.code place).1 as (λ _. line_rule program number f place (slice_get f.code place) ≡ None) [
       | inl found ↦ absurd (omega (arith, slice_get_within f.code place found.0 found.2))
       | inr none ↦ ap (line_rule program number f place) none.1
-    ]
-
-pub rule_first : (program : MidProgram) (number : ℕ) (f : MidFunction) → breaks_function program number f ≡ true → function_rule program number 0 (Some f) ≡ Some 1
-rule_first program number f h = ap (λ b. if b then Some 1 else line_rule program number f 0 (slice_get f.code 0)) h
-
--- one place further
-pub more_sound : (program : MidProgram) (number place : ℕ) (f : MidFunction) → ((p : ℕ) → p < place → function_rule program number p (Some f) ≡ None) → function_rule program number place (Some f) ≡ None → (p : ℕ) → p < place + 1 → function_rule program number p (Some f) ≡ None
-more_sound program number place f before here p within =
-    elim (cases_eq p place) [
-      | inl same ↦ ap (λ q. function_rule program number q (Some f)) same ∙ here
-      | inr other ↦ before p (omega arith)
     ]
 
 -- all functions
@@ -126,9 +110,6 @@ more_functions program index f at each here before place within =
       | inl same ↦ ap (λ n. rule_broken program (suc n) place) same ∙ at_function program index place f at ∙ here place
       | inr other ↦ each before place (omega arith)
     ]
-
-pub program_first : (program : MidProgram) → breaks_program program ≡ true → rule_broken program 0 0 ≡ Some 1
-program_first program h = ap (λ b. if b then Some 1 else None) h
 
 -- an element by its index
 pub at_index : {X : Type 0} (xs : List X) (k : ℕ) (x : X) → k < length xs → x ≡ get_or xs k x → slice_get xs k ≡ Some x

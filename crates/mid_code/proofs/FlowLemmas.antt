@@ -5,7 +5,7 @@ use Rattle.std.proofs.lemmas.Bool.{cases_lt}
 use Rattle.mid_code.specs.declared.mid.Mid.{Mid}
 use Rattle.mid_code.specs.Ways.{Way, Next, Counts, Begins, Ends, Jumps, Branches, Returns, Stops, way_of}
 use Rattle.mid_code.specs.declared.program.MidLine.{MidLine}
-use Rattle.mid_code.specs.Flow.{without, way_opened, open_behind, is_target, entry, or_else, entered_by, found_at}
+use Rattle.mid_code.specs.Flow.{without, way_opened, open_behind, is_target, open_into, or_else, entered_by, found_at}
 
 -- a place stays entered as it was entered first
 pub stays : (code : List MidLine) (n m t : ℕ) (os : List ℕ) → n ≤ m → entered_by code n t ≡ Some os → entered_by code m t ≡ Some os
@@ -14,7 +14,7 @@ stays code n zero t os below h = let e : n ≡ zero = omega arith in subst (λ k
 stays code n (suc m) t os below h =
     elim (cases_lt m n) [
       | inl more ↦ let e : n ≡ suc m = omega arith in subst (λ k. entered_by code k t ≡ Some os) e h
-      | inr within ↦ ap (λ first. or_else first (entry t m (entered_by code m m) (slice_get code m))) (stays code n m t os within h)
+      | inr within ↦ ap (λ first. or_else first (open_into t m (entered_by code m m) (slice_get code m))) (stays code n m t os within h)
     ]
 
 -- the newest of the open objects began before, and those below it are what was found there
@@ -66,14 +66,14 @@ stacked_taken : (code : List MidLine) (p : ℕ) (left os : List ℕ) (goes : Boo
 stacked_taken code p left os true stacked h = let e : left ≡ os = cc in subst (λ xs. IsStacked code (suc p) xs) e stacked
 stacked_taken code p left os false stacked h = absurd (cc)
 
-stacked_entry : (code : List MidLine) (p t : ℕ) (state : Option (List ℕ)) (line : Option MidLine) (os : List ℕ) → AreStackedTo code p → found_at code p ≡ state → entry t p state line ≡ Some os → IsStacked code (suc p) os
-stacked_entry code p t None line os low at h = absurd (cc)
-stacked_entry code p t (Some found) None os low at h = absurd (cc)
-stacked_entry code p t (Some found) (Some l) os low at h =
+stacked_into : (code : List MidLine) (p t : ℕ) (state : Option (List ℕ)) (line : Option MidLine) (os : List ℕ) → AreStackedTo code p → found_at code p ≡ state → open_into t p state line ≡ Some os → IsStacked code (suc p) os
+stacked_into code p t None line os low at h = absurd (cc)
+stacked_into code p t (Some found) None os low at h = absurd (cc)
+stacked_into code p t (Some found) (Some l) os low at h =
     stacked_taken code p (open_behind p l.mid found) os (is_target p l.mid t) (stacked_behind_to code p (way_of l.mid) found low at) h
 
-stacked_either : (code : List MidLine) (p t : ℕ) (first : Option (List ℕ)) (os : List ℕ) → AreStackedTo code p → entered_by code p t ≡ first → or_else first (entry t p (found_at code p) (slice_get code p)) ≡ Some os → IsStacked code (suc p) os
-stacked_either code p t None os low at h = stacked_entry code p t (found_at code p) (slice_get code p) os low refl h
+stacked_either : (code : List MidLine) (p t : ℕ) (first : Option (List ℕ)) (os : List ℕ) → AreStackedTo code p → entered_by code p t ≡ first → or_else first (open_into t p (found_at code p) (slice_get code p)) ≡ Some os → IsStacked code (suc p) os
+stacked_either code p t None os low at h = stacked_into code p t (found_at code p) (slice_get code p) os low refl h
 stacked_either code p t (Some first) os low at h =
     let e : first ≡ os = cc in
     widened code p (suc p) os (omega arith) (low p t os (omega arith) (at ∙ ap (λ xs. Some xs) e))
@@ -107,7 +107,7 @@ entry_after (Some os) left = (os, refl)
 pub entered_after : (code : List MidLine) (p t : ℕ) (l : MidLine) (found : List ℕ) → found_at code p ≡ Some found → slice_get code p ≡ Some l → is_target p l.mid t ≡ true → (os : List ℕ) × (entered_by code (suc p) t ≡ Some os)
 unfolding entered_by
 entered_after code p t l found here at goes =
-    let one : entry t p (found_at code p) (slice_get code p) ≡ Some (open_behind p l.mid found) =
-    ap (λ state. entry t p state (slice_get code p)) here ∙ ap (entry t p (Some found)) at ∙ taken (open_behind p l.mid found) (is_target p l.mid t) goes in
+    let one : open_into t p (found_at code p) (slice_get code p) ≡ Some (open_behind p l.mid found) =
+    ap (λ state. open_into t p state (slice_get code p)) here ∙ ap (open_into t p (Some found)) at ∙ taken (open_behind p l.mid found) (is_target p l.mid t) goes in
     let all = entry_after (entered_by code p t) (open_behind p l.mid found) in
     (all.0, ap (or_else (entered_by code p t)) one ∙ all.1)

@@ -17,8 +17,7 @@ use Rattle.mid_code.specs.declared.program.MidProgram.{MidProgram}
 use Rattle.mid_code.specs.declared.registers.Registers.{Registers}
 use Rattle.mid_code.specs.declared.mid.Mid.{Mid}
 use Rattle.mid_code.specs.declared.mid.Mid.TheVariants.{Const, Move, Arith, Conv, PtrAdd, PtrDiff, PtrCmp, GlobAddr, FunAddr, Load, Store, VLoad, VStore, Open, Close, Jump, JumpZ, JumpN, Turn, Call, CallPtr, Return, Put, Get, Exit}
-use Rattle.mid_code.specs.declared.access.Access.{Access}
-use Rattle.mid_code.specs.declared.access.Access.TheVariants.{Loads, Stores, VolatileLoads, VolatileStores, Opens, Closes, Puts, Gets, Exits}
+use Rattle.mid_code.specs.declared.access.Access.TheVariants.{Opens, Closes}
 use Rattle.mid_code.specs.Registers.{registers_list}
 use Rattle.mid_code.specs.Program.{function_at, line_at}
 use Rattle.mid_code.specs.Ways.{Way, Next, Branches, way_of, is_final_way, is_final, is_counting}
@@ -26,27 +25,15 @@ use Rattle.mid_code.specs.Flow.{way_goes, way_opened, found_at, goes_to, open_be
 use Rattle.mid_code.specs.Rules.{is_turn, misfits_type, type_of, misreturns}
 use Rattle.mid_code.specs.WellFormed.{IsTarget}
 use Rattle.mid_code.specs.Valid.{IsValid}
-use Rattle.mid_code.specs.Machine.{Opened, Activation, Local, Does, Goes, Calls, Leaves, Traps, Reaches, Lost, register, arguments, moved_to, passed, given, given_object, passed_close, goes, gives, moved_if, counts, is_of_type, is_callee, calls_value, closes, act, act_at, does}
+use Rattle.mid_code.specs.Machine.{Opened, Activation, Local, Does, Goes, Calls, Leaves, Traps, Reaches, Lost, register, arguments, moved_to, passed, given, goes, gives, moved_if, counts, is_of_type, is_callee, calls_value, closes, act, act_at, does}
 use Rattle.mid_code.specs.Bounds.{to_turn_in, to_turn, Nears}
 use Rattle.mid_code.specs.Fits.{IsValue, IsWithin}
+pub use Rattle.mid_code.proofs.AccessShapes.{AccessFits}
 use Rattle.mid_code.proofs.Keeping.{KeepsRules, neither, keeps}
 use Rattle.mid_code.proofs.Values.{one_within, read_small, reads_small, wider}
 use Rattle.mid_code.proofs.MachineFits.{GoesOn, CallFits}
 use Rattle.mid_code.proofs.Flowing.{in_order, first_entered, second_entered, followed}
 use Rattle.mid_code.proofs.Naming.{not_zero, static_small, callable_small, callee_of, function_kept, args_room}
-
--- an access wants what it may, and the activation stands within the program after it
-abbrev pub AccessFits : MidProgram → Activation → Access → Type 0
-AccessFits program a (Loads target pointer) = IsValue pointer × ((value : ℕ) → IsValue value → IsWithin program (given target value a))
-AccessFits program a (Stores pointer value) = IsValue pointer × IsValue value × IsWithin program (passed a)
-AccessFits program a (VolatileLoads target pointer) = IsValue pointer × ((value : ℕ) → IsValue value → IsWithin program (given target value a))
-AccessFits program a (VolatileStores pointer value) = IsValue pointer × IsValue value × IsWithin program (passed a)
-AccessFits program a (Opens target cells) =
-    (1 ≤ cells) × ((number : ℕ) → IsValue (pointer_to number 0) → IsWithin program (given_object target number a))
-AccessFits program a (Closes number) = (1 ≤ length a.opened) × IsWithin program (passed_close a)
-AccessFits program a (Puts value) = IsWithin program (passed a)
-AccessFits program a (Gets target) = (value : ℕ) → IsValue value → IsWithin program (given target value a)
-AccessFits program a (Exits value) = Unit {0}
 
 -- a call finds its function, and its caller waits within the program, with the register for the result
 pub record Waits (program : MidProgram) (a : Activation) (function : ℕ) (args : List ℕ) (target : ℕ) : Type 0 where

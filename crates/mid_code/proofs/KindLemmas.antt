@@ -1,12 +1,11 @@
 -- Rows of kinds, one after another.
-use Rattle.std.proofs.Common.{◌≡◌, ◌≢◌, ℕ, suc, ◌<◌, ◌≤◌, List, [], ◌∷◌, length, drop, get_or, Bool, true, false, refl, ap, ◌∙◌, arith}
+use Rattle.std.proofs.Common.{◌≡◌, ◌≢◌, ℕ, ◌<◌, ◌≤◌, List, [], ◌∷◌, length, drop, Bool, true, false, refl, ap, ◌∙◌, arith}
 use Rattle.std.specs.Prelude.{◌&&◌, slice_get}
 use Rattle.std.proofs.Common.{inl, inr}
 use Rattle.std.proofs.lemmas.Bool.{cases_lt}
-use Rattle.std.proofs.Math.Seq.{drop-cons}
 use Rattle.std.proofs.Math.ListN.{drop_of_length-le}
 use Rattle.mid_code.specs.declared.program.RegisterKind.{RegisterKind}
-use Rattle.mid_code.specs.Rules.{same_kind, is_of_kind, are_of_kinds, starts_with_kinds}
+use Rattle.mid_code.specs.Rules.{is_of_kind, are_of_kinds, starts_with_kinds}
 
 pub other_lengths : (kinds : List RegisterKind) (args : List ℕ) (params : List RegisterKind) → length args ≢ length params → are_of_kinds kinds args params ≡ false
 other_lengths kinds [] [] differ = absurd (differ refl)
@@ -18,22 +17,6 @@ other_lengths kinds (r ∷ rs) (k ∷ ks) differ =
     and_false : (b : Bool) → (b && false) ≡ false
     and_false true = refl
     and_false false = refl
-
-pub are_from : (kinds : List RegisterKind) (args : List ℕ) (params : List RegisterKind) (i d : ℕ) (e : RegisterKind) → i < length args → i < length params →
-    are_of_kinds kinds (drop i args) (drop i params) ≡ (is_of_kind (slice_get kinds (get_or args i d)) (get_or params i e) && are_of_kinds kinds (drop (suc i) args) (drop (suc i) params))
-are_from kinds args params i d e inside within =
-    ap (λ rs. are_of_kinds kinds rs (drop i params)) (drop-cons args i d inside)
-    ∙ ap (are_of_kinds kinds (get_or args i d ∷ drop (suc i) args)) (drop-cons params i e within)
-
-pub are_ended : (kinds : List RegisterKind) (args : List ℕ) (params : List RegisterKind) (i : ℕ) → length args ≤ i → length params ≤ i → are_of_kinds kinds (drop i args) (drop i params) ≡ true
-are_ended kinds args params i inside within =
-    ap (λ rs. are_of_kinds kinds rs (drop i params)) (drop_of_length-le args inside) ∙ ap (are_of_kinds kinds []) (drop_of_length-le params within)
-
-pub starts_from : (kinds params : List RegisterKind) (i : ℕ) (d e : RegisterKind) → i < length kinds → i < length params →
-    starts_with_kinds (drop i kinds) (drop i params) ≡ (same_kind (get_or kinds i d) (get_or params i e) && starts_with_kinds (drop (suc i) kinds) (drop (suc i) params))
-starts_from kinds params i d e inside within =
-    ap (λ ks. starts_with_kinds ks (drop i params)) (drop-cons kinds i d inside)
-    ∙ ap (starts_with_kinds (get_or kinds i d ∷ drop (suc i) kinds)) (drop-cons params i e within)
 
 starts_none : (params : List RegisterKind) → starts_with_kinds [] params ≡ true
 starts_none [] = refl

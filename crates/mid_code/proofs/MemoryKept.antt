@@ -106,3 +106,23 @@ finished_by memory part number h =
 pub finished : (memory : Memory) (number : ℕ) → IsMemory memory →
     IsMemory (finish_of memory number) × (live_count memory ≤ live_count (finish_of memory number) + 1)
 finished memory number h = finished_by memory (part_of_number number) number h
+
+-- both parts have this budget of cells
+abbrev pub HasCells : ℕ → Memory → Type 0
+HasCells cells memory = (part : Part) → (objects_of part memory).budget ≡ cells
+
+pub kept_part : (cells : ℕ) (memory : Memory) (part : Part) (objects : Objects) → HasCells cells memory → objects.budget ≡ cells →
+    HasCells cells (with_objects part memory objects)
+kept_part cells memory Protected objects h e Protected = e
+kept_part cells memory Protected objects h e Binary = h Binary
+kept_part cells memory Binary objects h e Protected = h Protected
+kept_part cells memory Binary objects h e Binary = e
+
+write_kept : (cells : ℕ) (memory : Memory) (part : Part) (pointer value : ℕ) (r : Result Object Trap) → HasCells cells memory →
+    IfOk (changed part memory (if_passed (λ _. written (objects_of part memory) pointer value) r)) (HasCells cells)
+write_kept cells memory part pointer value (Err trap) h = tt
+write_kept cells memory part pointer value (Ok object) h = kept_part cells memory part (written (objects_of part memory) pointer value) h (h part)
+
+pub wrote_cells : (budget : ℕ) (memory : Memory) (pointer value : ℕ) → HasCells budget memory → IfOk (write_of memory pointer value) (HasCells budget)
+wrote_cells budget memory pointer value h =
+    write_kept budget memory (part_of pointer) pointer value (access_of true (objects_of (part_of pointer) memory) pointer) h

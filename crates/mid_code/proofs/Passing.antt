@@ -8,7 +8,7 @@ use Rattle.std.proofs.lemmas.Bool.{cases_eq, cases_lt, cases_Bool, not-false, eq
 use Rattle.mid_code.specs.declared.mid.Mid.{Mid}
 use Rattle.mid_code.specs.Ways.{Way, Next, Counts, Begins, Ends, Jumps, Branches, Returns, Stops, way_of}
 use Rattle.mid_code.specs.declared.program.MidLine.{MidLine}
-use Rattle.mid_code.specs.Flow.{goes_to, way_opened, way_closes_wrongly, open_behind, is_target, entry, or_else, entered_by, found_at, same_places, has_others, closes_wrongly, enters_wrongly, breaks_order, breaks_order_by}
+use Rattle.mid_code.specs.Flow.{goes_to, way_opened, way_closes_wrongly, open_behind, is_target, open_into, or_else, entered_by, found_at, same_places, has_others, closes_wrongly, enters_wrongly, breaks_order, breaks_order_by}
 use Rattle.mid_code.specs.Row.{number_of, Holds, number_behind, number_closes_wrongly, row_after, has_other_number}
 use Rattle.mid_code.proofs.Flowing.{same_places-true}
 use Rattle.mid_code.proofs.FlowLemmas.{IsStacked, stacked, stacked_behind, entered_after, stays}
@@ -31,10 +31,6 @@ same_numbers code n m (x ∷ xs) (y ∷ ys) sa sb e =
     let s : Some xs ≡ Some ys = sym one.1 ∙ ap (found_at code) h ∙ two.1 in
     let r : xs ≡ ys = cc in
     ap (λ z. z ∷ xs) h ∙ ap (λ zs. y ∷ zs) r
-
-and_true : (a b : Bool) → (a && b) ≡ true → (a ≡ true) × (b ≡ true)
-and_true true b h = (refl, h)
-and_true false b h = absurd (cc)
 
 pub same_refl : (a : List ℕ) → same_places a a ≡ true
 same_refl [] = refl
@@ -100,7 +96,7 @@ numbers_behind row code p Returns found holds within here right = refl
 numbers_behind row code p Stops found holds within here right = refl
 
 -- a place that is not reached changes nothing
-quiet : (first : Option (List ℕ)) (line : Option MidLine) (p t : ℕ) → or_else first (entry t p None line) ≡ first
+quiet : (first : Option (List ℕ)) (line : Option MidLine) (p t : ℕ) → or_else first (open_into t p None line) ≡ first
 quiet None line p t = refl
 quiet (Some os) line p t = refl
 
@@ -117,7 +113,7 @@ next_quiet row code p holds none = record {
   behind = behind_next row code p holds;
   ahead = λ t past within.
       holds.ahead t (omega arith) within
-      ∙ ap number_of (sym (ap (λ state. or_else (entered_by code p t) (entry t p state (slice_get code p))) none ∙ quiet (entered_by code p t) (slice_get code p) p t));
+      ∙ ap number_of (sym (ap (λ state. or_else (entered_by code p t) (open_into t p state (slice_get code p))) none ∙ quiet (entered_by code p t) (slice_get code p) p t));
 }
 
 -- the row after the entries of an instruction
@@ -132,7 +128,7 @@ module _ (row : List ℕ) (code : List MidLine) (p left : ℕ) (l : MidLine) (fo
   chosen t false leave room past within empty goes = kept_other (length code) p left (goes_to p l.mid) row t goes ∙ empty
 
   ahead_by : (t : ℕ) (first : Option (List ℕ)) → left ≡ number_of (Some (open_behind p l.mid found)) → length code ≤ length row → p < t → t < length code → slice_index row t ≡ number_of first →
-      slice_index next_row t ≡ number_of (or_else first (entry t p (Some found) (Some l)))
+      slice_index next_row t ≡ number_of (or_else first (open_into t p (Some found) (Some l)))
   ahead_by t None leave room past within known = chosen t (is_target p l.mid t) leave room past within known refl
   ahead_by t (Some os) leave room past within known = kept_full (length code) p left (goes_to p l.mid) row t (λ e. some_number os (sym known ∙ e)) ∙ known
 
@@ -142,7 +138,7 @@ module _ (row : List ℕ) (code : List MidLine) (p left : ℕ) (l : MidLine) (fo
     behind = λ t before within. kept_behind (length code) p left (goes_to p l.mid) row t (omega arith) ∙ behind_next row code p holds t before within;
     ahead = λ t past within.
         ahead_by t (entered_by code p t) leave room (omega arith) within (holds.ahead t (omega arith) within)
-        ∙ ap number_of (sym (ap (λ state. or_else (entered_by code p t) (entry t p state (slice_get code p))) here ∙ ap (λ line. or_else (entered_by code p t) (entry t p (Some found) line)) at));
+        ∙ ap number_of (sym (ap (λ state. or_else (entered_by code p t) (open_into t p state (slice_get code p))) here ∙ ap (λ line. or_else (entered_by code p t) (open_into t p (Some found) line)) at));
   }
 
   -- a place that the instruction enters has its own number by now

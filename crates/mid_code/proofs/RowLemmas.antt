@@ -49,10 +49,6 @@ one_filled limit place left target row beyond within room empty =
     ∙ get_or-set_same row target left 0 (omega arith)
 
 -- the same of entries of several targets
-pub length_after : (limit place left : ℕ) (targets : List ℕ) (row : List ℕ) → length (row_after limit place left targets row) ≡ length row
-length_after limit place left [] row = refl
-length_after limit place left (x ∷ xs) row = length_after limit place left xs (row_entered limit place left x row) ∙ length_entered limit place left x row
-
 pub kept_behind : (limit place left : ℕ) (targets : List ℕ) (row : List ℕ) (t : ℕ) → t ≤ place → slice_index (row_after limit place left targets row) t ≡ slice_index row t
 kept_behind limit place left [] row t behind = refl
 kept_behind limit place left (x ∷ xs) row t behind = kept_behind limit place left xs (row_entered limit place left x row) t behind ∙ one_behind limit place left x row t behind

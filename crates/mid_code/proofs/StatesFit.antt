@@ -1,24 +1,22 @@
 -- Every state of a run of a valid program fits it, and has a next step or ends.
-use Rattle.std.proofs.Common.{◌≡◌, ℕ, zero, suc, ◌+◌, ◌<◌, ◌≤◌, List, [], ◌∷◌, length, Result, Ok, Err, refl, ap, subst, arith}
+use Rattle.std.proofs.Common.{◌≡◌, ℕ, zero, suc, ◌+◌, ◌<◌, ◌≤◌, List, [], ◌∷◌, length, Result, Ok, Err, refl, sym, ap, subst, arith}
 use Rattle.std.specs.Prelude.{All, IfOk, drop}
-use Rattle.std.proofs.lemmas.List.Elements.{All-head, All-tail}
 use Rattle.srmt_base.specs.declared.event.Event.{Event}
 use Rattle.srmt_base.specs.declared.part.Part.{Part}
 use Rattle.srmt_base.specs.declared.trap.Trap.{Trap}
-use Rattle.srmt_base.specs.Input.{next_byte}
 use Rattle.srmt_base.specs.Objects.{pointer_to}
-use Rattle.srmt_base.specs.Memory.{Memory, read_of, write_of, begin_of, next_number}
+use Rattle.srmt_base.specs.Memory.{Memory, begin_of, finish_of, next_number}
 use Rattle.mid_code.specs.declared.program.MidProgram.{MidProgram}
 use Rattle.mid_code.specs.declared.access.Access.{Access}
-use Rattle.mid_code.specs.declared.access.Access.TheVariants.{Loads, Stores, VolatileLoads, VolatileStores, Opens, Closes, Puts, Gets, Exits}
+use Rattle.mid_code.specs.declared.access.Access.TheVariants.{Opens}
 use Rattle.mid_code.specs.Valid.{IsValid}
 use Rattle.mid_code.specs.Machine.{Activation, Machine, Does, Goes, Calls, Leaves, Traps, Reaches, Lost, Entry, Entered, Refused, NoFunction, activations, passed, given, given_object, passed_close, local_of, with_local, with_top, waiting, enter, returned_to, does}
-use Rattle.mid_code.specs.Meaning.{State, Step, On, Ends, Stuck, Run, Running, Ended, NoWay, after_read, after_write, after_begin, after_get, after_call, after_return, own_part, reach, step, step_by, preceded, then_run, exec}
+use Rattle.mid_code.specs.Meaning.{State, Step, On, Ends, Stuck, Run, Running, Ended, NoWay, after_read, after_write, after_begin, after_call, after_return, own_part, reach, step, step_by, preceded, then_run, exec}
 use Rattle.mid_code.specs.Fits.{IsValue, IsWithin, IsMachine, Fits, open_count}
-use Rattle.mid_code.proofs.PartsKept.{read_value}
-use Rattle.mid_code.proofs.MemoryKept.{AfterWrite, AfterBegin, wrote, began, finished}
+use Rattle.mid_code.proofs.MemoryKept.{AfterWrite, AfterBegin, began, finished}
 use Rattle.mid_code.proofs.MachineFits.{EntryFits, ReturnFits, top_changed, local_fits, entry_cases, enter_fits, returned_fits}
-use Rattle.mid_code.proofs.InstructionsFit.{AccessFits, DoesFit, Waits, does_fits}
+use Rattle.mid_code.proofs.AccessShapes.{AccessFits, Shape, GivesValue, WritesMemory, BeginsObject, EndsObject, Tells, EndsRun, step_of, ShapeHolds, shaped}
+use Rattle.mid_code.proofs.InstructionsFit.{DoesFit, Waits, does_fits}
 
 -- a step leads to a state that fits, or ends the run
 abbrev pub IsSound : MidProgram → Step → Type 0
@@ -44,11 +42,16 @@ module _ (program : MidProgram) (s : State) (h : Fits program s) where
       IsMachine program (with_top (given target value s.machine.top) s.machine)
   given_machine target value within = top_changed program s.machine (given target value s.machine.top) h.machine refl refl within
 
-  read_fits : (target line : ℕ) (events : List Event) (r : Result ℕ Trap) → IfOk r IsValue →
-      ((value : ℕ) → IsValue value → IsWithin program (given target value s.machine.top)) → IsSound program (after_read target line events s r)
-  read_fits target line events (Ok value) small fits =
-      machine_fits (with_top (given target value s.machine.top) s.machine) (given_machine target value (fits value small)) (omega arith)
-  read_fits target line events (Err trap) small fits = tt
+  read_fits : (target line : ℕ) (events : List Event) (input : List ℕ) (r : Result ℕ Trap) → IfOk r IsValue → All (λ byte. byte < 256) input →
+      ((value : ℕ) → IsValue value → IsWithin program (given target value s.machine.top)) →
+      IsSound program (after_read target line events (record s { input = input }) r)
+  read_fits target line events input (Ok value) small bytes fits = record {
+    machine = given_machine target value (fits value small);
+    memory = h.memory;
+    input = bytes;
+    opened = omega (arith, h.opened);
+  }
+  read_fits target line events input (Err trap) small bytes fits = tt
 
   write_fits : (line : ℕ) (events : List Event) (r : Result Memory Trap) → IfOk r (AfterWrite s.memory) → IsWithin program (passed s.machine.top) →
       IsSound program (after_write line events s r)
@@ -72,36 +75,15 @@ module _ (program : MidProgram) (s : State) (h : Fits program s) where
   }
   begin_fits part target line (Err trap) after fits = tt
 
-  get_fits : (target : ℕ) (input : List ℕ) → All (λ byte. byte < 256) input →
-      ((value : ℕ) → IsValue value → IsWithin program (given target value s.machine.top)) → IsSound program (after_get target s (next_byte input))
-  get_fits target [] bytes fits = record {
-    machine = given_machine target 4294967295 (fits 4294967295 (omega arith));
-    memory = h.memory;
-    input = bytes;
-    opened = omega (arith, h.opened);
-  }
-  get_fits target (byte ∷ rest) bytes fits = record {
-    machine = given_machine target byte (fits byte (omega (arith, All-head (λ b. b < 256) byte rest bytes)));
-    memory = h.memory;
-    input = All-tail (λ b. b < 256) byte rest bytes;
-    opened = omega (arith, h.opened);
-  }
-
   closed_count : 1 ≤ length s.machine.top.opened → length (drop 1 s.machine.top.opened) + 1 ≡ length s.machine.top.opened
   closed_count some = counted s.machine.top.opened some where
     counted : {X : Type 0} (xs : List X) → 1 ≤ length xs → length (drop 1 xs) + 1 ≡ length xs
     counted [] some = absurd (omega arith)
     counted (x ∷ xs) some = omega arith
 
-  -- one case for each access
-  reach_fits : (access : Access) (line : ℕ) → AccessFits program s.machine.top access → IsSound program (reach program access line s)
-  reach_fits (Loads target pointer) line a = read_fits target line [] (read_of s.memory pointer) (read_value s.memory pointer h.memory) a.1
-  reach_fits (Stores pointer value) line a = write_fits line [] (write_of s.memory pointer value) (wrote s.memory pointer value h.memory a.1) a.2
-  reach_fits (VolatileLoads target pointer) line a = read_fits target line _ (read_of s.memory pointer) (read_value s.memory pointer h.memory) a.1
-  reach_fits (VolatileStores pointer value) line a = write_fits line _ (write_of s.memory pointer value) (wrote s.memory pointer value h.memory a.1) a.2
-  reach_fits (Opens target cells) line a =
-      begin_fits (own_part program s) target line (begin_of (own_part program s) s.memory cells) (began s.memory (own_part program s) cells h.memory a.0) a.1
-  reach_fits (Closes number) line a =
+  end_fits : (number : ℕ) → (1 ≤ length s.machine.top.opened) × IsWithin program (passed_close s.machine.top) →
+      Fits program (record s { machine = with_top (passed_close s.machine.top) s.machine; memory = finish_of s.memory number })
+  end_fits number a =
       let after = finished s.memory number h.memory in
       record {
         machine = top_changed program s.machine (passed_close s.machine.top) h.machine refl refl a.1;
@@ -109,9 +91,24 @@ module _ (program : MidProgram) (s : State) (h : Fits program s) where
         input = h.input;
         opened = omega (arith, after.1, h.opened, closed_count a.0);
       }
-  reach_fits (Puts value) line a = machine_fits (with_top (passed s.machine.top) s.machine) (passed_machine a) (omega arith)
-  reach_fits (Gets target) line a = get_fits target s.input h.input a
-  reach_fits (Exits value) line a = tt
+
+  -- one case for each shape of an access
+  shape_fits : (access : Access) (line : ℕ) (shape : Shape) → ShapeHolds program s access shape → AccessFits program s.machine.top access →
+      IsSound program (step_of program line s shape)
+  shape_fits access line (GivesValue target events value input) k a = read_fits target line events input value (k.small h) (k.bytes h.input) (k.within a)
+  shape_fits access line (WritesMemory events memory) k a = write_fits line events memory (k.kept h a) (k.within a)
+  shape_fits access line (BeginsObject target cells) k a =
+      let own = own_part program s in
+      let b : AccessFits program s.machine.top (Opens target cells) = subst (AccessFits program s.machine.top) k a in
+      begin_fits own target line (begin_of own s.memory cells) (began s.memory own cells h.memory b.0) b.1
+  shape_fits access line (EndsObject number) k a = end_fits number (k a)
+  shape_fits access line (Tells events) k a = machine_fits (with_top (passed s.machine.top) s.machine) (passed_machine (k.1 a)) (omega arith)
+  shape_fits access line (EndsRun status events) k a = tt
+
+  reach_fits : (access : Access) (line : ℕ) → AccessFits program s.machine.top access → IsSound program (reach program access line s)
+  reach_fits access line a =
+      let found = shaped program s line access in
+      subst (IsSound program) (sym found.is) (shape_fits access line found.shape found.holds a)
 
   -- a call is entered
   abbrev OpensKept : Entry → Type 0

@@ -1,5 +1,5 @@
 -- Each step of a run leaves fewer steps to go, and a run of a valid program ends after fewer steps and events than its bound.
-use Rattle.std.proofs.Common.{◌≡◌, ℕ, ◌+◌, ◌*◌, ◌<◌, ◌≤◌, List, [], ◌∷◌, length, Result, Ok, Err, refl, ap, subst, arith}
+use Rattle.std.proofs.Common.{◌≡◌, ℕ, ◌+◌, ◌*◌, ◌<◌, ◌≤◌, List, [], ◌∷◌, length, Result, Ok, Err, refl, sym, ap, subst, arith}
 use Rattle.srmt_base.specs.declared.budgets.Budget.{Budget}
 use Rattle.srmt_base.specs.declared.budgets.Budgets.{Budgets}
 use Rattle.srmt_base.specs.declared.event.Event.{Event}
@@ -7,16 +7,16 @@ use Rattle.srmt_base.specs.declared.part.Part.{Part}
 use Rattle.srmt_base.specs.declared.part.Part.TheVariants.{Protected, Binary}
 use Rattle.srmt_base.specs.declared.trap.Trap.{Trap}
 use Rattle.srmt_base.specs.Budgets.{budget_of, with_budget, spent, leave_of}
-use Rattle.srmt_base.specs.Memory.{Memory, read_of, write_of, begin_of, next_number}
+use Rattle.srmt_base.specs.Memory.{Memory, begin_of, next_number}
 use Rattle.mid_code.specs.declared.program.MidProgram.{MidProgram}
 use Rattle.mid_code.specs.declared.access.Access.{Access}
-use Rattle.mid_code.specs.declared.access.Access.TheVariants.{Loads, Stores, VolatileLoads, VolatileStores, Opens, Closes, Puts, Gets, Exits}
 use Rattle.mid_code.specs.Valid.{IsValid}
 use Rattle.mid_code.specs.Machine.{Activation, Does, Goes, Calls, Leaves, Traps, Reaches, Lost, Entry, passed, given, given_object, passed_close, part_of_function, local_of, with_top, activation_of, waiting, enter, resumed, returned_to, does}
 use Rattle.mid_code.specs.Meaning.{State, Step, On, Ends, Stuck, after_read, after_write, after_begin, after_call, after_return, own_part, reach, step, step_by}
 use Rattle.mid_code.specs.Bounds.{to_turn, all_to_turn, left_to_go, Nears}
 use Rattle.mid_code.specs.Fits.{IsMachine, Fits}
 use Rattle.mid_code.proofs.MachineFits.{entry_cases, enter_spends, begins}
+use Rattle.mid_code.proofs.AccessShapes.{Shape, GivesValue, WritesMemory, BeginsObject, EndsObject, Tells, EndsRun, step_of, ShapeHolds, shaped}
 use Rattle.mid_code.proofs.InstructionsFit.{DoesFit, Waits, few_to_turn, does_fits}
 
 -- a step leaves fewer steps to go, with at most one event
@@ -33,11 +33,11 @@ module _ (program : MidProgram) (s : State) where
   top_nearer : (a : Activation) → to_turn program a < to_turn program s.machine.top → left_to_go program (with_top a s.machine) < left_to_go program s.machine
   top_nearer a near = omega (arith, near)
 
-  read_nears : (target line : ℕ) (events : List Event) (r : Result ℕ Trap) → IsNear → length events ≤ 1 →
-      StepNears program s (after_read target line events s r)
+  read_nears : (target line : ℕ) (events : List Event) (input : List ℕ) (r : Result ℕ Trap) → IsNear → length events ≤ 1 →
+      StepNears program s (after_read target line events (record s { input = input }) r)
   unfolding IsNear
-  read_nears target line events (Ok value) near one = (top_nearer (given target value s.machine.top) near, one)
-  read_nears target line events (Err trap) near one = omega arith
+  read_nears target line events input (Ok value) near one = (top_nearer (given target value s.machine.top) near, one)
+  read_nears target line events input (Err trap) near one = omega arith
 
   write_nears : (line : ℕ) (events : List Event) (r : Result Memory Trap) → IsNear → length events ≤ 1 → StepNears program s (after_write line events s r)
   unfolding IsNear
@@ -49,19 +49,21 @@ module _ (program : MidProgram) (s : State) where
   begin_nears target line number (Ok memory) near = (top_nearer (given_object target number s.machine.top) near, omega arith)
   begin_nears target line number (Err trap) near = omega arith
 
-  -- one case for each access
-  reach_nears : (access : Access) (line : ℕ) → IsNear → StepNears program s (reach program access line s)
+  -- one case for each shape of an access
+  shape_nears : (access : Access) (line : ℕ) (shape : Shape) → ShapeHolds program s access shape → IsNear → StepNears program s (step_of program line s shape)
   unfolding IsNear
-  reach_nears (Loads target pointer) line near = read_nears target line [] (read_of s.memory pointer) near (omega arith)
-  reach_nears (Stores pointer value) line near = write_nears line [] (write_of s.memory pointer value) near (omega arith)
-  reach_nears (VolatileLoads target pointer) line near = read_nears target line _ (read_of s.memory pointer) near (omega arith)
-  reach_nears (VolatileStores pointer value) line near = write_nears line _ (write_of s.memory pointer value) near (omega arith)
-  reach_nears (Opens target cells) line near =
+  shape_nears access line (GivesValue target events value input) h near = read_nears target line events input value near h.one
+  shape_nears access line (WritesMemory events memory) h near = write_nears line events memory near h.one
+  shape_nears access line (BeginsObject target cells) h near =
       begin_nears target line (next_number (own_part program s) s.memory) (begin_of (own_part program s) s.memory cells) near
-  reach_nears (Closes number) line near = (top_nearer (passed_close s.machine.top) near, omega arith)
-  reach_nears (Puts value) line near = (top_nearer (passed s.machine.top) near, omega arith)
-  reach_nears (Gets target) line near = (top_nearer (given target 0 s.machine.top) near, omega arith)
-  reach_nears (Exits value) line near = omega arith
+  shape_nears access line (EndsObject number) h near = (top_nearer (passed_close s.machine.top) near, omega arith)
+  shape_nears access line (Tells events) h near = (top_nearer (passed s.machine.top) near, h.0)
+  shape_nears access line (EndsRun status events) h near = h
+
+  reach_nears : (access : Access) (line : ℕ) → IsNear → StepNears program s (reach program access line s)
+  reach_nears access line near =
+      let found = shaped program s line access in
+      subst (StepNears program s) (sym found.is) (shape_nears access line found.shape found.holds near)
 
   -- the activation that runs goes on, with another budget of its part
   local_nearer : (part : Part) (budget : Budget) (a : Activation) →

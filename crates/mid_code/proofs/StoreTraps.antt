@@ -12,35 +12,21 @@ use Rattle.srmt_base.specs.declared.trap.Trap.{Trap}
 use Rattle.srmt_base.specs.declared.trap.Trap.TheVariants.{Turns, Depth, Store as StoreTrap}
 use Rattle.srmt_base.specs.declared.trap.SourceEnd.TheVariants.{Trap as TrapEnd}
 use Rattle.srmt_base.specs.Budgets.{budget_of, with_result, spent}
-use Rattle.srmt_base.specs.Objects.{Object, Objects, access_of, if_passed, written, begun, end_of, live_cells}
-use Rattle.srmt_base.specs.Memory.{Memory, Count, last_number, objects_of, with_objects, part_of, part_of_number, changed, begun_if, read_of, write_of, next_number, begin_of}
+use Rattle.srmt_base.specs.Objects.{begun, end_of, live_cells}
+use Rattle.srmt_base.specs.Memory.{Memory, Count, last_number, objects_of, part_of_number, changed, begun_if, next_number, begin_of}
 use Rattle.mid_code.specs.declared.program.MidFunction.{MidFunction}
 use Rattle.mid_code.specs.declared.program.MidLine.{MidLine}
 use Rattle.mid_code.specs.declared.program.MidProgram.{MidProgram}
 use Rattle.mid_code.specs.declared.mid.Mid.TheVariants.{Open}
 use Rattle.mid_code.specs.declared.access.Access.{Access}
-use Rattle.mid_code.specs.declared.access.Access.TheVariants.{Loads, Stores, VolatileLoads, VolatileStores, Opens, Closes, Puts, Gets, Exits}
+use Rattle.mid_code.specs.declared.access.Access.TheVariants.{Opens}
 use Rattle.mid_code.specs.Program.{function_at, line_at}
 use Rattle.mid_code.specs.Machine.{Activation, Machine, Does, Goes, Calls, Leaves, Traps, Reaches, Lost, Entry, Entered, Refused, NoFunction, local_of, part_of_function, waiting, activation_of, entry_by, entry_in, enter, returned, act, act_at, does}
 use Rattle.mid_code.specs.Meaning.{State, Step, On, Ends, Stuck, Run, Running, Ended, NoWay, after_read, after_write, after_begin, after_call, after_return, own_part, reach, step, step_by, preceded, then_run, exec, started}
-use Rattle.mid_code.proofs.OtherTraps.{IsOther, read_other, write_other}
+use Rattle.mid_code.proofs.OtherTraps.{IsOther}
+use Rattle.mid_code.proofs.MemoryKept.{HasCells, kept_part}
+use Rattle.mid_code.proofs.AccessShapes.{Shape, GivesValue, WritesMemory, BeginsObject, EndsObject, Tells, EndsRun, step_of, ShapeHolds, shaped}
 use Rattle.mid_code.proofs.InstructionsCounted.{OpensBy, not_store, act_opens}
-
--- both parts have this budget of cells
-abbrev pub HasCells : ℕ → Memory → Type 0
-HasCells cells memory = (part : Part) → (objects_of part memory).budget ≡ cells
-
-kept_part : (cells : ℕ) (memory : Memory) (part : Part) (objects : Objects) → HasCells cells memory → objects.budget ≡ cells →
-    HasCells cells (with_objects part memory objects)
-kept_part cells memory Protected objects h e Protected = e
-kept_part cells memory Protected objects h e Binary = h Binary
-kept_part cells memory Binary objects h e Protected = h Protected
-kept_part cells memory Binary objects h e Binary = e
-
-write_kept : (cells : ℕ) (memory : Memory) (part : Part) (pointer value : ℕ) (r : Result Object Trap) → HasCells cells memory →
-    IfOk (changed part memory (if_passed (λ _. written (objects_of part memory) pointer value) r)) (HasCells cells)
-write_kept cells memory part pointer value (Err trap) h = tt
-write_kept cells memory part pointer value (Ok object) h = kept_part cells memory part (written (objects_of part memory) pointer value) h (h part)
 
 begin_kept : (budget : ℕ) (memory : Memory) (part : Part) (cells : ℕ) (r : Result Count Trap) → HasCells budget memory →
     IfOk (changed part memory (begun_if r (objects_of part memory) cells)) (HasCells budget)
@@ -55,9 +41,10 @@ IfCells cells (Ends end events) = Unit {0}
 IfCells cells Stuck = Unit {0}
 
 module _ (budget : ℕ) (program : MidProgram) (s : State) (h : HasCells budget s.memory) where
-  read_cells : (target line : ℕ) (events : List Event) (r : Result ℕ Trap) → IfCells budget (after_read target line events s r)
-  read_cells target line events (Ok value) = h
-  read_cells target line events (Err trap) = tt
+  read_cells : (target line : ℕ) (events : List Event) (input : List ℕ) (r : Result ℕ Trap) →
+      IfCells budget (after_read target line events (record s { input = input }) r)
+  read_cells target line events input (Ok value) = h
+  read_cells target line events input (Err trap) = tt
 
   write_cells : (line : ℕ) (events : List Event) (r : Result Memory Trap) → IfOk r (HasCells budget) → IfCells budget (after_write line events s r)
   write_cells line events (Ok memory) k = k
@@ -67,25 +54,23 @@ module _ (budget : ℕ) (program : MidProgram) (s : State) (h : HasCells budget 
   begin_cells target line number (Ok memory) k = k
   begin_cells target line number (Err trap) k = tt
 
-  wrote_cells : (pointer value : ℕ) → IfOk (write_of s.memory pointer value) (HasCells budget)
-  wrote_cells pointer value =
-      write_kept budget s.memory (part_of pointer) pointer value (access_of true (objects_of (part_of pointer) s.memory) pointer) h
-
-  -- one case for each access
-  reach_cells : (access : Access) (line : ℕ) → IfCells budget (reach program access line s)
-  reach_cells (Loads target pointer) line = read_cells target line [] (read_of s.memory pointer)
-  reach_cells (Stores pointer value) line = write_cells line [] (write_of s.memory pointer value) (wrote_cells pointer value)
-  reach_cells (VolatileLoads target pointer) line = read_cells target line _ (read_of s.memory pointer)
-  reach_cells (VolatileStores pointer value) line = write_cells line _ (write_of s.memory pointer value) (wrote_cells pointer value)
-  reach_cells (Opens target cells) line =
+  -- one case for each shape of an access
+  shape_cells : (access : Access) (line : ℕ) (shape : Shape) → ShapeHolds program s access shape → IfCells budget (step_of program line s shape)
+  shape_cells access line (GivesValue target events value input) k = read_cells target line events input value
+  shape_cells access line (WritesMemory events memory) k = write_cells line events memory (k.cells budget h)
+  shape_cells access line (BeginsObject target cells) k =
       let part = own_part program s in
       begin_cells target line (next_number part s.memory) (begin_of part s.memory cells) (begin_kept budget s.memory part cells _ h)
-  reach_cells (Closes number) line =
+  shape_cells access line (EndsObject number) k =
       let part = part_of_number number in
       kept_part budget s.memory part (end_of (objects_of part s.memory) number) h (h part)
-  reach_cells (Puts value) line = h
-  reach_cells (Gets target) line = h
-  reach_cells (Exits value) line = tt
+  shape_cells access line (Tells events) k = h
+  shape_cells access line (EndsRun status events) k = tt
+
+  reach_cells : (access : Access) (line : ℕ) → IfCells budget (reach program access line s)
+  reach_cells access line =
+      let found = shaped program s line access in
+      subst (IfCells budget) (sym found.is) (shape_cells access line found.shape found.holds)
 
   call_cells : (entry : Entry) → IfCells budget (after_call s entry)
   call_cells (Entered machine) = h
@@ -174,30 +159,15 @@ module _ (memory : Memory) (part : Part) (cells : ℕ) where
 abbrev IsNoStore : Step → Type 0
 IsNoStore t = (line : ℕ) → t ≡ Ends (TrapEnd StoreTrap line) [] → ⊥
 
--- of the accesses only the beginning of an object is
-abbrev TrapsBy : Access → Step → Type 0
-TrapsBy (Opens target cells) t = Unit {0}
-TrapsBy _ t = IsNoStore t
-
-module _ (program : MidProgram) (s : State) (at : ℕ) where
-  read_by : (target : ℕ) (events : List Event) (r : Result ℕ Trap) → IfErr r IsOther → IsNoStore (after_read target at events s r)
-  read_by target events (Ok value) h line e = cc
-  read_by target events (Err trap) h line e = let same : trap ≡ StoreTrap = cc in not_store trap h same
+module _ (s : State) (at : ℕ) where
+  read_by : (target : ℕ) (events : List Event) (input : List ℕ) (r : Result ℕ Trap) → IfErr r IsOther →
+      IsNoStore (after_read target at events (record s { input = input }) r)
+  read_by target events input (Ok value) h line e = cc
+  read_by target events input (Err trap) h line e = let same : trap ≡ StoreTrap = cc in not_store trap h same
 
   write_by : (events : List Event) (r : Result Memory Trap) → IfErr r IsOther → IsNoStore (after_write at events s r)
   write_by events (Ok memory) h line e = cc
   write_by events (Err trap) h line e = let same : trap ≡ StoreTrap = cc in not_store trap h same
-
-  reach_by : (access : Access) → TrapsBy access (reach program access at s)
-  reach_by (Loads target pointer) = read_by target [] (read_of s.memory pointer) (read_other s.memory pointer)
-  reach_by (Stores pointer value) = write_by [] (write_of s.memory pointer value) (write_other s.memory pointer value)
-  reach_by (VolatileLoads target pointer) = read_by target _ (read_of s.memory pointer) (read_other s.memory pointer)
-  reach_by (VolatileStores pointer value) = write_by _ (write_of s.memory pointer value) (write_other s.memory pointer value)
-  reach_by (Opens target cells) = tt
-  reach_by (Closes number) = λ line e. cc
-  reach_by (Puts value) = λ line e. cc
-  reach_by (Gets target) = λ line e. cc
-  reach_by (Exits value) = λ line e. cc
 
 -- nor is the entry of a function
 abbrev NoStoreEntry : Entry → Type 0
@@ -235,21 +205,29 @@ module _ (budget : ℕ) (program : MidProgram) (s : State) (line : ℕ) (h : Has
       let same : at ≡ line = cc in
       (same, subst (λ b. HasNoRoom b (own_part program s) s.memory cells) (h (own_part program s)) (no_room s.memory (own_part program s) cells trap is))
 
-  reach_forward : (l : MidLine) (access : Access) (at : ℕ) → OpensBy l.mid l.line (Reaches access at) →
-      reach program access at s ≡ Ends (TrapEnd StoreTrap line) [] →
-      OpensPast budget program s line (Some l)
-  reach_forward l (Opens target cells) at o e =
+  begin_forward : (l : MidLine) (target cells at : ℕ) → OpensBy l.mid l.line (Reaches (Opens target cells) at) →
+      step_of program at s (BeginsObject target cells) ≡ Ends (TrapEnd StoreTrap line) [] → OpensPast budget program s line (Some l)
+  begin_forward l target cells at o e =
       let done = begin_trapped target cells at (begin_of (own_part program s) s.memory cells) refl e in
       let where_it_is : l.line ≡ line = o.1 ∙ done.0 in
       (target, cells, ap (λ n. Some (record { line = n; mid = l.mid })) where_it_is ∙ ap (λ m. Some (record { line = line; mid = m })) o.0, done.1)
-  reach_forward l (Loads target pointer) at o e = absurd (reach_by program s at (Loads target pointer) line e)
-  reach_forward l (Stores pointer value) at o e = absurd (reach_by program s at (Stores pointer value) line e)
-  reach_forward l (VolatileLoads target pointer) at o e = absurd (reach_by program s at (VolatileLoads target pointer) line e)
-  reach_forward l (VolatileStores pointer value) at o e = absurd (reach_by program s at (VolatileStores pointer value) line e)
-  reach_forward l (Closes number) at o e = absurd (reach_by program s at (Closes number) line e)
-  reach_forward l (Puts value) at o e = absurd (reach_by program s at (Puts value) line e)
-  reach_forward l (Gets target) at o e = absurd (reach_by program s at (Gets target) line e)
-  reach_forward l (Exits value) at o e = absurd (reach_by program s at (Exits value) line e)
+
+  -- of the shapes only the beginning of an object is
+  shape_forward : (l : MidLine) (access : Access) (at : ℕ) (shape : Shape) → ShapeHolds program s access shape → OpensBy l.mid l.line (Reaches access at) →
+      step_of program at s shape ≡ Ends (TrapEnd StoreTrap line) [] → OpensPast budget program s line (Some l)
+  shape_forward l access at (GivesValue target events value input) k o e = absurd (read_by s at target events input value k.other line e)
+  shape_forward l access at (WritesMemory events memory) k o e = absurd (write_by s at events memory k.other line e)
+  shape_forward l access at (BeginsObject target cells) k o e =
+      begin_forward l target cells at (subst (λ a. OpensBy l.mid l.line (Reaches a at)) k o) e
+  shape_forward l access at (EndsObject number) k o e = absurd (cc)
+  shape_forward l access at (Tells events) k o e = absurd (cc)
+  shape_forward l access at (EndsRun status events) k o e = absurd (cc)
+
+  reach_forward : (l : MidLine) (access : Access) (at : ℕ) → OpensBy l.mid l.line (Reaches access at) →
+      reach program access at s ≡ Ends (TrapEnd StoreTrap line) [] → OpensPast budget program s line (Some l)
+  reach_forward l access at o e =
+      let found = shaped program s at access in
+      shape_forward l access at found.shape found.holds o (sym found.is ∙ e)
 
   call_forward : (l : MidLine) (entry : Entry) → NoStoreEntry entry → after_call s entry ≡ Ends (TrapEnd StoreTrap line) [] →
       OpensPast budget program s line (Some l)

@@ -41,7 +41,8 @@ pub record IsSized (table : Table) : Type 0 where
   pub some : (mid : Mid) → 1 ≤ table.size mid
   pub few : (mid : Mid) → table.size mid ≤ 20
 
-length-checks : (site : Site) (rs : List ℕ) → length (checks site rs) ≡ check_count rs
+-- how many checks there are
+pub length-checks : (site : Site) (rs : List ℕ) → length (checks site rs) ≡ check_count rs
 length-checks site [] = refl
 length-checks site (r ∷ []) = refl
 length-checks site (r ∷ s ∷ rs) = ap suc (length-checks site (s ∷ rs))

@@ -46,9 +46,9 @@ is_target place mid target = list_any (λ next. next == target) (goes_to place m
 
 -- the open objects with which the instruction at a place enters a target: none where it does not enter it, or
 -- is not reached itself, as where nothing is found
-abbrev pub entry : ℕ → ℕ → Option (List ℕ) → Option MidLine → Option (List ℕ)
-entry target place (Some found) (Some l) = if is_target place l.mid target then Some (open_behind place l.mid found) else None
-entry target place _ _ = None
+abbrev pub open_into : ℕ → ℕ → Option (List ℕ) → Option MidLine → Option (List ℕ)
+open_into target place (Some found) (Some l) = if is_target place l.mid target then Some (open_behind place l.mid found) else None
+open_into target place _ _ = None
 
 abbrev pub or_else : Option (List ℕ) → Option (List ℕ) → Option (List ℕ)
 or_else (Some first) second = Some first
@@ -58,7 +58,7 @@ or_else None second = second
 -- places that is reached and enters it. What is found at a place is that with which the places before it enter it
 unfoldable pub entered_by : List MidLine → ℕ → ℕ → Option (List ℕ)
 entered_by code zero target = if target == 0 then Some [] else None
-entered_by code (suc place) target = or_else (entered_by code place target) (entry target place (entered_by code place place) (slice_get code place))
+entered_by code (suc place) target = or_else (entered_by code place target) (open_into target place (entered_by code place place) (slice_get code place))
 
 -- the open objects of a place, if it is reached
 abbrev pub found_at : List MidLine → ℕ → Option (List ℕ)
