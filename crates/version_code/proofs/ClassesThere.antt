@@ -1,6 +1,7 @@
 -- A valid program has a class for each instruction of its main file.
 use Rattle.std.proofs.Common.{◌≡◌, ℕ, zero, suc, ◌+◌, ◌≤◌, List, [], ◌∷◌, length, take, Some, refl, sym, ap, ◌∙◌, arith}
 use Rattle.std.specs.Prelude.{slice_get}
+use Rattle.mid_code.proofs.AllShared.{taken_get}
 use Rattle.mid_code.specs.declared.class.Class.{Class}
 use Rattle.mid_code.specs.declared.class.Shared.{Shared}
 use Rattle.mid_code.specs.declared.program.MidLine.{MidLine}
@@ -38,12 +39,6 @@ rows_fit mains site (s ∷ ss) (g ∷ gs) zero cs f at_class at =
     sym (ap length row) ∙ length-classes_from site (sharings mains s 0 g.code) ∙ length-sharings mains s 0 g.code ∙ ap (λ (h : MidFunction). length h.code) same
 rows_fit mains site (s ∷ ss) (g ∷ gs) (suc index) cs f at_class at = rows_fit mains (site + site_count (sharings mains s 0 g.code)) ss gs index cs f at_class at
 
-within_taken : {X : Type 0} (n : ℕ) (xs : List X) (k : ℕ) (x : X) → slice_get (take n xs) k ≡ Some x → slice_get xs k ≡ Some x
-within_taken zero xs k x at = absurd (cc)
-within_taken (suc n) [] k x at = absurd (cc)
-within_taken (suc n) (y ∷ ys) zero x at = at
-within_taken (suc n) (y ∷ ys) (suc k) x at = within_taken n ys k x at
-
 pub classes_there : (p : SharedProgram) → HasSites p → HaveClasses (classes_of p) (protected_functions p.program)
 classes_there p sites =
     let fs = protected_functions p.program in
@@ -51,7 +46,7 @@ classes_there p sites =
       count = length-all_classes_from 1 (all_sharings p) ∙ length-sharings_of p.program.main_functions p.shared fs sites.closed.count;
       each = λ index cs f at_class at. record {
         each = rows_fit p.program.main_functions 1 p.shared fs index cs f at_class at;
-        few = ((well_formed p.program sites.valid).functions (suc index) f (within_taken p.program.main_functions p.program.functions index f at)).code.1;
+        few = ((well_formed p.program sites.valid).functions (suc index) f (taken_get p.program.main_functions p.program.functions index f at)).code.1;
       };
     }
 
