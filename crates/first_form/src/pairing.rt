@@ -25,6 +25,9 @@ pub fn pair_of(alloc: Global, program: MidProgram) -> Result<Pair, AllocError>
     Ok(Pair::new(classed, parts.leading, parts.trailing))
 }
 
+/// How many lines an instruction of the first form becomes at most, on either side.
+const LONGEST_GROUP: usize = 3;
+
 // The classes and the versions of the functions of the main file, in order.
 #[derive(Drop)]
 struct ProgramParts {
@@ -94,8 +97,8 @@ fn function_parts(
 {
     let mut parts = FunctionParts {
         classes: Vec::with_capacity(alloc, code.len())?,
-        leading: Vec::with_capacity(alloc, code.len())?,
-        trailing: Vec::with_capacity(alloc, code.len())?,
+        leading: Vec::with_capacity(alloc, code.len().saturating_mul(LONGEST_GROUP))?,
+        trailing: Vec::with_capacity(alloc, code.len().saturating_mul(LONGEST_GROUP))?,
         next: first,
     };
     for (place, line) in code.iter().enumerate() {
