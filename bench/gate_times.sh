@@ -7,22 +7,25 @@ cd "$(dirname "$0")/.."
 seen=$(mktemp -d)
 trap 'rm -rf "$seen"' EXIT
 
-# all processes that this run of the gate has started
-below() {
-  local child
-  for child in $(ps -o pid= --ppid "$1" 2>/dev/null); do
-    echo "$child"
-    below "$child"
-  done
+# the processes of the prover that this run of the gate has started, by one look at all of them
+provers() {
+  ps -e -o pid= -o ppid= -o args= | awk -v root="$1" '
+    { parent[$1] = $2; prover[$1] = ($0 ~ /rattle (check|build)/) }
+    END {
+      for (id in prover) if (prover[id]) {
+        above = id
+        while (above in parent && above != root) above = parent[above]
+        if (above == root) print id
+      }
+    }'
 }
 
 # the crate, what is checked of it, and the seconds so far, in a file for each process
 look() {
   local id words place kind crate clock
   clock=$(getconf CLK_TCK)
-  for id in $(below "$1"); do
-    words=$(tr '\0' ' ' <"/proc/$id/cmdline" 2>/dev/null) || continue
-    case $words in *"rattle check"* | *"rattle build"*) ;; *) continue ;; esac
+  for id in $(provers "$1"); do
+    words=$(tr '\0' ' ' 2>/dev/null <"/proc/$id/cmdline") || continue
     place=$(readlink "/proc/$id/cwd") || continue
     crate=${words##*--crate-name }
     crate=${crate%% *}
@@ -34,7 +37,7 @@ look() {
     awk -v crate="$crate" -v kind="$kind" -v clock="$clock" '{ print crate, kind, ($14 + $15) / clock }' "/proc/$id/stat" >"$seen/$id.new" 2>/dev/null &&
       mv "$seen/$id.new" "$seen/$id"
   done
-}
+} 2>/dev/null
 
 begun=$(date +%s)
 rt ci "$@" >"$seen/log" 2>&1 &
