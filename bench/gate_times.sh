@@ -34,8 +34,9 @@ look() {
       *" --test "*) kind=tests ;;
       *) kind=own ;;
     esac
-    awk -v crate="$crate" -v kind="$kind" -v clock="$clock" '{ print crate, kind, ($14 + $15) / clock }' "/proc/$id/stat" >"$seen/$id.new" 2>/dev/null &&
-      mv "$seen/$id.new" "$seen/$id"
+    # a number of a process may come again later: its time of starting tells the two apart
+    awk -v crate="$crate" -v kind="$kind" -v clock="$clock" -v file="$seen/$id" \
+      '{ print crate, kind, ($14 + $15) / clock >(file "-" $22) }' "/proc/$id/stat"
   done
 } 2>/dev/null
 
