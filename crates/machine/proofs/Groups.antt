@@ -18,8 +18,8 @@ use Rattle.mid_code.specs.Ways.{is_final}
 use Rattle.mid_code.specs.Classes.{site_of, sharing_of, class_of}
 use Rattle.mid_code.specs.Versions.{Table, leading, trailing, operands_list, group_of}
 use Rattle.mid_code.proofs.VersionGroups.{IsSized, leading_sized, trailing_sized}
-use Rattle.machine.specs.Performed.{IsPerformed}
 use Rattle.machine.proofs.FirstForm.{AreFit}
+use Rattle.machine.proofs.CopiedFits.{CopiedFits, IsCopiedYet, copied_fits}
 
 -- the table by which a side's version is made
 abbrev pub table_of : Side → Table
@@ -45,11 +45,6 @@ abbrev pub IsLast : VersionOp → Type 0
 IsLast (Act site request target function args) = acts_last request
 IsLast (End source) = Unit {0}
 IsLast _ = ⊥
-
--- an instruction that both sides perform: its registers are there, and its value is small
-pub record CopiedFits (kinds : List RegisterKind) (mid : Mid) : Type 0 where
-  pub fit : AreFit kinds mid
-  pub performed : IsPerformed (length kinds) mid
 
 -- the operands of an exchange: there are some, no more than a call has, and their registers are there
 pub record ArgsFit (kinds : List RegisterKind) (args : List ℕ) : Type 0 where
@@ -100,15 +95,15 @@ module _ (mains n place : ℕ) (shared : Shared) (moved : ℕ → ℕ) where
   abbrev pub group_for : Side → Mid → List VersionOp
   group_for side mid = group_of (table_of side) moved place (class_of n (sharing_of mains shared place mid)) mid
 
-  copied_group : (side : Side) (kinds : List RegisterKind) (mid : Mid) → AreFit kinds mid → (is_final mid ≡ true → ⊥) → IsPerformed (length kinds) mid → GroupFits side kinds mid (Copied mid ∷ [])
-  copied_group side kinds mid fit not_final performed = record {
-    each = (record { fit = fit; performed = performed }, tt);
+  copied_group : (side : Side) (kinds : List RegisterKind) (mid : Mid) → AreFit kinds mid → (is_final mid ≡ true → ⊥) → IsCopiedYet mid → GroupFits side kinds mid (Copied mid ∷ [])
+  copied_group side kinds mid fit not_final yet = record {
+    each = (copied_fits kinds mid fit yet, tt);
     last = λ final op at. absurd (not_final final);
   }
 
   pub group_fits : (side : Side) (kinds : List RegisterKind) (mid : Mid) → AreFit kinds mid → GroupFits side kinds mid (group_for side mid)
-  group_fits Lead kinds (Const target value) fit = copied_group Lead kinds (Const target value) fit (λ h. cc) fit.0
-  group_fits Lead kinds (Conv from to target source) fit = copied_group Lead kinds (Conv from to target source) fit (λ h. cc) fit
+  group_fits Lead kinds (Const target value) fit = copied_group Lead kinds (Const target value) fit (λ h. cc) tt
+  group_fits Lead kinds (Conv from to target source) fit = copied_group Lead kinds (Conv from to target source) fit (λ h. cc) tt
   group_fits Lead kinds (Put source) fit =
       let args = one_arg kinds source fit in
       record { each = (args, (args, (record { args_fit = args; served = tt }, tt))); last = λ final op at. absurd (cc) }
@@ -119,8 +114,8 @@ module _ (mains n place : ℕ) (shared : Shared) (moved : ℕ → ℕ) where
         last = λ final op at. let same : Act (site_of n) AsksExit None None (One source) ≡ op = cc in subst IsLast same tt;
       }
   group_fits Lead kinds _ fit = absurd fit
-  group_fits Trail kinds (Const target value) fit = copied_group Trail kinds (Const target value) fit (λ h. cc) fit.0
-  group_fits Trail kinds (Conv from to target source) fit = copied_group Trail kinds (Conv from to target source) fit (λ h. cc) fit
+  group_fits Trail kinds (Const target value) fit = copied_group Trail kinds (Const target value) fit (λ h. cc) tt
+  group_fits Trail kinds (Conv from to target source) fit = copied_group Trail kinds (Conv from to target source) fit (λ h. cc) tt
   group_fits Trail kinds (Put source) fit = record { each = (fit, (one_arg kinds source fit, tt)); last = λ final op at. absurd (cc) }
   group_fits Trail kinds (Exit source) fit =
       record { each = (fit, (one_arg kinds source fit, (fit, tt))); last = λ final op at. let same : End source ≡ op = cc in subst IsLast same tt }

@@ -26,7 +26,8 @@ use Rattle.machine.specs.Leading.{compared, heard_by, awaits, act_request, acts_
 use Rattle.machine.specs.Trailing.{checks, trail_op, trail_at, trail_next}
 use Rattle.machine.specs.Fits.{HeardFits, SideFits, HoldsSmall}
 use Rattle.machine.proofs.Groups.{IsServed, IsLast, OpFits}
-use Rattle.machine.proofs.Fitting.{GoesOn, goes_on, op_fits, fits_next}
+use Rattle.machine.proofs.CopiedFits.{GoesOn}
+use Rattle.machine.proofs.Fitting.{goes_on, op_fits, fits_next}
 
 -- acknowledgements that all agree pass the instruction
 compared_by : (b : Bool) (next : Outcome) (s s' : SideState) (word mine : ℕ) → (next ≡ Went s' → passed_on s ≡ s') → cond b next (Ended (Echo word mine)) ≡ Went s' → passed_on s ≡ s'
@@ -45,6 +46,7 @@ record Keeps (Good : SideState → Type 0) (kinds : List RegisterKind) (op : Ver
   pub next : (next : Standing) → GoesOn s.at.machine.top next.machine.top → (IsLast op → ⊥) → Good (record { at = next; heard = [] })
   pub more : (heard : List ℕ) → HeardFits op heard → Good (record s { heard = heard })
   pub each : HoldsSmall s
+  pub count : length s.at.machine.top.registers ≡ length kinds
 
 module _ (Good : SideState → Type 0) (kinds : List RegisterKind) (s s' : SideState) where
   same_keeps : (op : VersionOp) → Keeps Good kinds op s → Went s ≡ Went s' → Good s'
@@ -57,7 +59,7 @@ module _ (Good : SideState → Type 0) (kinds : List RegisterKind) (s s' : SideS
   performed_keeps : (program : SharedProgram) (mid : Mid) (line : ℕ) (wants : Wants) → OpFits Lead kinds (Copied mid) → Keeps Good kinds (Copied mid) s → wanted program mid line s ≡ wants → performed wants s ≡ Went s' → Good s'
   performed_keeps program mid line (Runs next) fits keeps is h =
       let e : record { at = next; heard = [] } ≡ s' = cc in
-      subst Good e (keeps.next next (goes_on program kinds mid line s next fits.fit keeps.each is) (λ none. none))
+      subst Good e (keeps.next next (goes_on program kinds mid line s next fits keeps.count keeps.each is) (λ none. none))
   performed_keeps program mid line (Dies words trap at) fits keeps is h = absurd (cc)
   performed_keeps program mid line (Requests request) fits keeps is h = same_keeps (Copied mid) keeps h
   performed_keeps program mid line (Lost words) fits keeps is h = same_keeps (Copied mid) keeps h
@@ -119,6 +121,7 @@ module _ (program : SharedProgram) (s s' : SideState) (w : WorldState) (meet : M
     next = fits_next side program s sites fits;
     more = λ heard h. record { function = fits.function; line = fits.line; found = fits.found; at = fits.at; registers = fits.registers; each = fits.each; heard = h };
     each = fits.each;
+    count = fits.registers;
   }
 
   -- a step that goes on leaves a side that fits

@@ -1,4 +1,5 @@
 pub mod FirstForm
+pub mod CopiedFits
 pub mod Groups
 pub mod Placed
 pub mod Fitting

@@ -8,6 +8,7 @@ use Rattle.mid_code.specs.declared.version.VersionOp.{VersionOp}
 use Rattle.mid_code.specs.declared.version.VersionOp.TheVariants.{Copied, SharedLoad, SharedStore, SharedOpen, SharedClose, Ask, Await, Act, Enter, Callback, Check, CheckZero, CheckStored, Ack, Take, TakeDone, CheckOpen, CheckClose, End}
 use Rattle.mid_code.specs.declared.version.VersionLine.{VersionLine}
 use Rattle.mid_code.specs.Program.{function_at}
+use Rattle.mid_code.specs.Machine.{Does, Goes, Calls, Leaves, Traps, Reaches, Lost}
 use Rattle.machine.specs.declared.stepped.Stepped.{Stepped}
 use Rattle.machine.specs.declared.stepped.Stepped.TheVariants.{Went, NotYet, Ended}
 use Rattle.world.specs.World.{WorldState, is_live}
@@ -49,6 +50,15 @@ pub record CanSpell (s : SideState) (args : List ℕ) : Type 0 where
   pub few : length args ≤ 17
   pub registers : AreRegisters s args
   pub small : HoldsSmall s
+
+-- what needs the activation and the budget of its part alone: it goes on, or stops the run
+abbrev pub IsAlone : Does → Type 0
+IsAlone (Goes local) = Unit {0}
+IsAlone (Calls function args target) = ⊥
+IsAlone (Leaves value) = ⊥
+IsAlone (Traps trap line) = Unit {0}
+IsAlone (Reaches access line) = ⊥
+IsAlone Lost = ⊥
 
 -- no version is so long
 abbrev pub IsNear : SideState → Type 0

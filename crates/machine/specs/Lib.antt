@@ -4,7 +4,6 @@ pub mod OneStep
 pub mod Side
 pub mod Upset
 pub mod Steps
-pub mod Performed
 pub mod Leading
 pub mod Trailing
 pub mod Meets

@@ -17,9 +17,9 @@ use crate::link::Link;
 use crate::link_call::Taken;
 use crate::machine::Machine;
 use crate::stepped::Stepped;
-use crate::steps::{STEP_ROOM, perform, send_operands};
+use crate::steps::{STEP_ROOM, perform_copied, send_operands};
 use mid_code::{Operands, Pair, VersionOp};
-use srmt_base::{Kind, Site, Word, pack};
+use srmt_base::{Kind, Side, Site, Word, pack};
 use srmt_outside::Outlet;
 use verdicts::ThreadEnd;
 use word_stream::{Request, Response, request_of};
@@ -155,12 +155,12 @@ pub fn lead_step<O: Outlet, L: Link>(
 {
     // The call is for the proof: a pair is one of a program of the first form.
     let _pair = pair.classed();
-    let Some(line) = pair.leading_at(m.function, m.place) else {
+    let Some(line) = m.next_line(pair, Side::Lead) else {
         unreachable!()
     };
     match &line.op {
         VersionOp::Copied(mid) => {
-            let stepped = perform(m, *mid, line.line);
+            let stepped = perform_copied(pair, m, *mid, line.line);
             stepped
         }
         VersionOp::Ask { site, operands } => {

@@ -14,9 +14,9 @@ use crate::link::Link;
 use crate::link_call::Taken;
 use crate::machine::Machine;
 use crate::stepped::Stepped;
-use crate::steps::{perform, send_operands};
+use crate::steps::{perform_copied, send_operands};
 use mid_code::{Pair, VersionOp};
-use srmt_base::{Kind, Site, Word, pack};
+use srmt_base::{Kind, Side, Site, Word, pack};
 use verdicts::ThreadEnd;
 
 // Compares a word with the side's own.
@@ -68,12 +68,12 @@ pub fn trail_step<L: Link>(pair: &Pair, m: &mut Machine, link: &mut L) -> Steppe
 {
     // The call is for the proof: a pair is one of a program of the first form.
     let _pair = pair.classed();
-    let Some(line) = pair.trailing_at(m.function, m.place) else {
+    let Some(line) = m.next_line(pair, Side::Trail) else {
         unreachable!()
     };
     match &line.op {
         VersionOp::Copied(mid) => {
-            let stepped = perform(m, *mid, line.line);
+            let stepped = perform_copied(pair, m, *mid, line.line);
             stepped
         }
         VersionOp::Check { site, source } => {
