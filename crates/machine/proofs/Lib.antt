@@ -8,3 +8,4 @@ pub mod Comparing
 pub mod Trying
 pub mod Keeping
 pub mod Standing
+pub mod Copying

@@ -11,3 +11,4 @@ pub mod Tried
 pub mod Faults
 pub mod Fits
 pub mod View
+pub mod Quiet

@@ -7,6 +7,7 @@
 //! `Machine::start` takes memory.
 #![tactic(auto)]
 
+mod copied;
 mod heard;
 mod leading;
 mod link;
@@ -19,6 +20,7 @@ mod steps;
 mod tests;
 mod trailing;
 
+pub use copied::run_copied;
 pub use leading::lead_step;
 pub use link::Link;
 pub use link_call::{LastCall, Taken};

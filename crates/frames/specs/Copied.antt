@@ -1,0 +1,70 @@
+-- What an activation of a version does by its copied instructions, which both sides of a pair perform.
+use Rattle.std.specs.Prelude.{ℕ, zero, suc, ◌≡◌, ◌+◌, ◌^◌, ◌<◌, List, length, Option, Some, None, All}
+use Rattle.srmt_base.specs.declared.side.Side.{Side}
+use Rattle.srmt_base.specs.declared.side.Side.TheVariants.{Lead, Trail}
+use Rattle.mid_code.specs.declared.mid.Mid.{Mid}
+use Rattle.mid_code.specs.declared.program.MidProgram.{MidProgram}
+use Rattle.mid_code.specs.declared.version.Version.{Version}
+use Rattle.mid_code.specs.declared.version.VersionLine.{VersionLine}
+use Rattle.mid_code.specs.declared.version.VersionOp.TheVariants.{Copied}
+use Rattle.mid_code.specs.Classes.{SharedProgram}
+use Rattle.mid_code.specs.Versions.{leading_versions, trailing_versions, version_at}
+use Rattle.mid_code.specs.Fits.{IsValue}
+use Rattle.mid_code.specs.Machine.{Local, Machine, Goes, local_of, with_local, act}
+use Rattle.frames.specs.declared.alone.Stand.{Stand}
+use Rattle.frames.specs.Alone.{GoesBy, Names}
+
+-- the versions that a side runs
+abbrev pub versions_of : Side → SharedProgram → List Version
+versions_of Lead program = leading_versions program
+versions_of Trail program = trailing_versions program
+
+-- as many registers, with values
+pub record IsKept (before after : List ℕ) : Type 0 where
+  pub count : length after ≡ length before
+  pub each : All IsValue after
+
+-- an instruction names registers among so many, and where it goes on they are as many as before, with values
+pub record CanCopy (mid : Mid) (count : ℕ) : Type 0 where
+  pub names : Names mid count
+  pub keeps : (program : MidProgram) (line : ℕ) (l next : Local) → length l.at.registers ≡ count → All IsValue l.at.registers →
+      act program mid line l ≡ Goes next → IsKept l.at.registers next.at.registers
+
+-- each copied instruction of a function's version can be performed with so many registers
+abbrev pub CanCopyAll : Side → SharedProgram → ℕ → ℕ → Type 0
+CanCopyAll side program function count =
+    (place : ℕ) (l : VersionLine) (mid : Mid) → version_at (versions_of side program) function place ≡ Some l → l.op ≡ Copied mid →
+    (place + 1 < 2 ^ 32) × CanCopy mid count
+
+-- the instruction at which an activation stands is a copied one, which leads from the one to the other
+pub record Copies (side : Side) (program : SharedProgram) (function : ℕ) (before : List ℕ) (from : Stand) (after : List ℕ) (to : Stand) : Type 0 where
+  pub line : VersionLine
+  pub mid : Mid
+  pub at : version_at (versions_of side program) function from.place ≡ Some line
+  pub copied : line.op ≡ Copied mid
+  pub goes : GoesBy mid before from after to
+
+-- what the code says of it: where it is none, or has not gone on, nothing has changed
+abbrev pub HasCopied : Side → SharedProgram → ℕ → List ℕ → Stand → List ℕ → Option Stand → Type 0
+HasCopied side program function before from after (Some to) = Copies side program function before from after to × IsKept before after
+HasCopied side program function before from after None = after ≡ before
+
+-- so many of them, one after another
+abbrev pub CopiesMany : Side → SharedProgram → ℕ → ℕ → List ℕ → Stand → List ℕ → Stand → Type 0
+CopiesMany side program function zero before from after to = (after ≡ before) × (to ≡ from)
+CopiesMany side program function (suc n) before from after to =
+    (registers : List ℕ) × (stand : Stand) × CopiesMany side program function n before from registers stand × Copies side program function registers stand after to
+
+-- the same of a machine, whose newest activation performs them
+pub record CopiesOn (side : Side) (program : SharedProgram) (before after : Machine) : Type 0 where
+  pub line : VersionLine
+  pub mid : Mid
+  pub local : Local
+  pub at : version_at (versions_of side program) before.top.function before.top.place ≡ Some line
+  pub copied : line.op ≡ Copied mid
+  pub goes : act program.program mid line.line (local_of program.program before) ≡ Goes local
+  pub leads : after ≡ with_local program.program local before
+
+abbrev pub HasCopiedOn : Side → SharedProgram → ℕ → Machine → Machine → Type 0
+HasCopiedOn side program zero before after = after ≡ before
+HasCopiedOn side program (suc n) before after = (m : Machine) × HasCopiedOn side program n before m × CopiesOn side program m after

@@ -1,0 +1,93 @@
+-- A run of copied instructions is one of quiet steps, and leaves a side that fits.
+use Rattle.std.proofs.Common.{◌≡◌, ℕ, zero, suc, [], Some, sym, ap, ap₂, ◌∙◌, subst, arith, length}
+use Rattle.srmt_base.specs.declared.side.Side.{Side}
+use Rattle.srmt_base.specs.declared.side.Side.TheVariants.{Lead, Trail}
+use Rattle.mid_code.specs.declared.mid.Mid.{Mid}
+use Rattle.mid_code.specs.declared.program.MidFunction.{MidFunction}
+use Rattle.mid_code.specs.declared.version.VersionOp.{VersionOp}
+use Rattle.mid_code.specs.declared.version.VersionOp.TheVariants.{Copied}
+use Rattle.mid_code.specs.declared.version.VersionLine.{VersionLine}
+use Rattle.mid_code.specs.Classes.{SharedProgram}
+use Rattle.mid_code.specs.Machine.{Local, Machine, Does, Goes, act}
+use Rattle.mid_code.specs.Pairs.{HasSites}
+use Rattle.frames.specs.Copied.{IsKept, CanCopy, CanCopyAll, CopiesOn, HasCopiedOn}
+use Rattle.frames.proofs.AloneRuns.{names_all}
+use Rattle.world.specs.Requests.{wants_alone}
+use Rattle.world.specs.World.{WorldState, Over}
+use Rattle.machine.specs.Side.{SideState, Meet, Plain, StepGives, Went}
+use Rattle.machine.specs.Steps.{side_op, takes, may_send, takes_at, may_send_at, performed, quiet}
+use Rattle.machine.specs.Leading.{lead_op, lead_at, lead_next}
+use Rattle.machine.specs.Trailing.{trail_op, trail_at, trail_next}
+use Rattle.machine.specs.Meets.{next_of}
+use Rattle.machine.specs.Fits.{SideFits}
+use Rattle.machine.specs.Quiet.{IsQuiet, QuietSteps}
+use Rattle.machine.proofs.CopiedFits.{GoesAlone, GoesOn, CopiedFits}
+use Rattle.machine.proofs.Groups.{OpFits}
+use Rattle.machine.proofs.Placed.{placed}
+use Rattle.machine.proofs.Standing.{heard_here}
+use Rattle.machine.proofs.Keeping.{lead_fits, trail_fits}
+
+-- a side whose machine is this
+abbrev pub with_machine : SideState → Machine → SideState
+with_machine s m = record s { at = record s.at { machine = m } }
+
+module _ (program : SharedProgram) (s : SideState) (w : WorldState) (meet : Meet) (l : VersionLine) (mid : Mid) (copied : l.op ≡ Copied mid) where
+  lead_copied : side_op Lead program s ≡ Some l → lead_next program s w meet ≡ lead_op program (Copied mid) l.line s w meet
+  unfolding lead_next
+  lead_copied at = ap (λ o. lead_at program o s w meet) at ∙ ap (λ (op : VersionOp). lead_op program op l.line s w meet) copied
+
+  trail_copied : side_op Trail program s ≡ Some l → trail_next program s w meet ≡ trail_op program (Copied mid) l.line s w meet
+  unfolding trail_next
+  trail_copied at = ap (λ o. trail_at program o s w meet) at ∙ ap (λ (op : VersionOp). trail_op program op l.line s w meet) copied
+
+  next_copied : (side : Side) → side_op side program s ≡ Some l → next_of side program s w meet ≡ lead_op program (Copied mid) l.line s w meet
+  next_copied Lead at = lead_copied at
+  next_copied Trail at = trail_copied at
+
+next_fits : (side : Side) (program : SharedProgram) (s after : SideState) (w : WorldState) (meet : Meet) → HasSites program → SideFits side program s → (next_of side program s w meet).outcome ≡ Went after → SideFits side program after
+next_fits Lead program s after w meet sites fits h = lead_fits program s after w meet sites fits h
+next_fits Trail program s after w meet sites fits h = trail_fits program s after w meet sites fits h
+
+kept_by : (l next : Local) (d : Does) → d ≡ Goes next → GoesAlone l.at d → IsKept l.at.registers next.at.registers
+kept_by l next d is goes =
+    let on : GoesOn l.at next.at = subst (GoesAlone l.at) is goes in
+    record { count = on.count; each = on.each }
+
+module _ (side : Side) (program : SharedProgram) (sites : HasSites program) where
+  -- what the code needs to perform them
+  pub can_copy_all : (s : SideState) → SideFits side program s → CanCopyAll side program s.at.machine.top.function (length s.at.machine.top.registers)
+  can_copy_all s fits place l mid at copied =
+      let here = placed side program s.at.machine.top.function place l sites at in
+      let both : Some here.code ≡ Some fits.function = sym here.found ∙ fits.found in
+      let same : here.code ≡ fits.function = cc in
+      let op : OpFits side fits.function.kinds (Copied mid) = subst (OpFits side fits.function.kinds) copied (subst (λ (f : MidFunction). OpFits side f.kinds l.op) same here.fits) in
+      (omega (arith, here.small), can_copy mid op)
+    where
+      can_copy : (mid : Mid) → CopiedFits fits.function.kinds mid → CanCopy mid (length s.at.machine.top.registers)
+      can_copy mid good = record {
+        names = names_all program.program mid s.at.machine.top (good.can program.program s.at.machine.top fits.registers);
+        keeps = λ p line l next count each is. kept_by l next (act p mid line l) is (good.goes p line l (count ∙ fits.registers) each);
+      }
+
+  -- one step
+  quiet_step : (s : SideState) (after : Machine) → SideFits side program s → CopiesOn side program s.at.machine after → IsQuiet side program s (with_machine s after)
+  quiet_step s after fits c =
+      let heard : s.heard ≡ [] = heard_here side program s sites fits c.line (Copied c.mid) c.at c.copied in
+      let stands = ap₂ (λ (m : Machine) heard. record { at = record s.at { machine = m }; heard = heard }) (sym c.leads) (sym heard) in
+      record {
+        takes_none = ap takes_at c.at ∙ ap takes c.copied;
+        sends_none = ap may_send_at c.at ∙ ap may_send c.copied;
+        gives = λ w meet. next_copied program s w meet c.line c.mid c.copied side c.at
+            ∙ ap (λ d. quiet w (performed (wants_alone program d s.at) s)) c.goes ∙ ap (λ (t : SideState). quiet w (Went t)) stands;
+      }
+
+  -- and more of them
+  pub quiet_steps : (n : ℕ) (s : SideState) (after : Machine) → SideFits side program s → HasCopiedOn side program n s.at.machine after →
+      QuietSteps side program n s (with_machine s after) × SideFits side program (with_machine s after)
+  quiet_steps zero s after fits same = let e : with_machine s after ≡ s = ap (with_machine s) same in (e, subst (SideFits side program) (sym e) fits)
+  quiet_steps (suc n) s after fits c =
+      let so_far = quiet_steps n s c.0 fits c.1 in
+      let step : IsQuiet side program (with_machine s c.0) (with_machine s after) = quiet_step (with_machine s c.0) after so_far.1 c.2 in (
+        (with_machine s c.0, so_far.0, step),
+        next_fits side program (with_machine s c.0) (with_machine s after) Over Plain sites so_far.1 (ap (λ (g : StepGives). g.outcome) (step.gives Over Plain)),
+      )
