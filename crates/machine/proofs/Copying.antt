@@ -21,8 +21,7 @@ use Rattle.machine.specs.Trailing.{trail_op, trail_at, trail_next}
 use Rattle.machine.specs.Meets.{next_of}
 use Rattle.machine.specs.Fits.{SideFits}
 use Rattle.machine.specs.Quiet.{IsQuiet, QuietSteps}
-use Rattle.machine.proofs.CopiedFits.{GoesAlone, GoesOn, CopiedFits}
-use Rattle.machine.proofs.Groups.{OpFits}
+use Rattle.machine.proofs.FirstForm.{GoesAlone, GoesOn, CopiedFits, OpFits}
 use Rattle.machine.proofs.Placed.{placed}
 use Rattle.machine.proofs.Standing.{heard_here}
 use Rattle.machine.proofs.Keeping.{lead_fits, trail_fits}

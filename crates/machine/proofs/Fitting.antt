@@ -26,8 +26,7 @@ use Rattle.world.proofs.Plain.{is_main, is_protected}
 use Rattle.machine.specs.Side.{SideState, opening}
 use Rattle.machine.specs.Steps.{versions_of, wanted}
 use Rattle.machine.specs.Fits.{HeardFits, SideFits, HoldsSmall}
-use Rattle.machine.proofs.CopiedFits.{GoesOn, GoesAlone, CopiedFits}
-use Rattle.machine.proofs.Groups.{table_of, table_sized, IsLast, OpFits}
+use Rattle.machine.proofs.FirstForm.{GoesOn, GoesAlone, CopiedFits, table_of, table_sized, IsLast, OpFits}
 use Rattle.machine.proofs.Placed.{Placed, placed, there}
 
 -- no acknowledgement is kept at the start of an instruction

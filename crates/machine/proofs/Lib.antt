@@ -1,6 +1,4 @@
 pub mod FirstForm
-pub mod CopiedFits
-pub mod Groups
 pub mod Placed
 pub mod Fitting
 pub mod Sending

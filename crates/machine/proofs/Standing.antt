@@ -10,7 +10,6 @@ use Rattle.mid_code.specs.Versions.{operands_list}
 use Rattle.srmt_base.specs.declared.word.Site.{Site}
 use Rattle.mid_code.specs.declared.mid.Mid.{Mid}
 use Rattle.srmt_base.specs.declared.request_kind.RequestKind.{RequestKind}
-use Rattle.srmt_base.specs.declared.request_kind.RequestKind.TheVariants.{Put as AsksPut, Exit as AsksExit}
 use Rattle.mid_code.specs.declared.version.VersionOp.{VersionOp}
 use Rattle.mid_code.specs.declared.version.VersionOp.TheVariants.{Act}
 use Rattle.mid_code.specs.declared.version.VersionLine.{VersionLine}
@@ -18,9 +17,8 @@ use Rattle.mid_code.specs.Machine.{local_of, act}
 use Rattle.mid_code.specs.Pairs.{HasSites}
 use Rattle.mid_code.proofs.Naming.{whole}
 use Rattle.frames.specs.Acts.{IsReady}
-use Rattle.world.specs.World.{WorldState, Lives, Over, is_live, ask}
+use Rattle.world.specs.World.{WorldState, Lives, Over, is_live, ask_living, ask}
 use Rattle.word_stream.specs.declared.request.Request.{Request}
-use Rattle.word_stream.specs.declared.request.Request.TheVariants.{Put, Exit}
 use Rattle.word_stream.specs.Reading.{request_of}
 use Rattle.machine.specs.declared.stepped.Stepped.{Stepped}
 use Rattle.machine.specs.declared.stepped.Stepped.TheVariants.{Went as Made, NotYet, Ended as MadeLast}
@@ -31,8 +29,7 @@ use Rattle.machine.specs.Trailing.{trail_op, trail_at, trail_next}
 use Rattle.machine.specs.Link.{Shown}
 use Rattle.machine.specs.Tried.{Tries, TriesBy}
 use Rattle.machine.specs.Fits.{HeardFits, SideFits, IsAlone, IsNear, CanSpell, FitsAfter, LivesAfter}
-use Rattle.machine.proofs.CopiedFits.{CopiedFits, is_alone}
-use Rattle.machine.proofs.Groups.{IsServed, ArgsFit, OpFits}
+use Rattle.machine.proofs.FirstForm.{CopiedFits, is_alone, IsServed, served, lives_on, ArgsFit, OpFits}
 use Rattle.machine.proofs.Fitting.{here, op_fits}
 use Rattle.machine.proofs.Keeping.{lead_fits, trail_fits}
 
@@ -91,9 +88,8 @@ module _ (program : SharedProgram) (s s' : SideState) (w w' : WorldState) (stepp
 alive_request : (q : Request) (s s' : SideState) (w : WorldState) (meet : Meet) → IsTrue (is_live w) → (acts meet q (ask w q) s w).outcome ≡ Went s' → IsTrue (is_live (acts meet q (ask w q) s w).world)
 unfolding ask
 alive_request q s s' w (Failed written) live h = absurd (cc)
-alive_request (Put site value) s s' (Lives inside) Plain live h = live
-alive_request (Put site value) s s' Over Plain live h = absurd (cc)
-alive_request (Exit site value) s s' w Plain live h = absurd (cc)
+alive_request q s s' (Lives inside) Plain live h = lives_on q (ask_living inside q).response s s' inside h
+alive_request q s s' Over Plain live h = absurd (cc)
 alive_request q s s' w (Got word) live h = live
 alive_request q s s' w Closed live h = live
 
@@ -134,10 +130,11 @@ pub first_operand : (s : SideState) (args : List ℕ) → 1 ≤ length args → 
 first_operand s [] some = absurd (omega arith)
 first_operand s (x ∷ xs) some = refl
 
-pub served_there : (request : RequestKind) (site : Site) (value : ℕ) → IsServed request → request_of request site value ≡ None → ⊥
-served_there AsksPut site value served h = cc
-served_there AsksExit site value served h = cc
-served_there _ site value served h = served
+pub served_there : (kind : RequestKind) (site : Site) (value : ℕ) → IsServed kind → request_of kind site value ≡ None → ⊥
+served_there kind site value is h =
+    let r = served kind site value is in
+    let clash : Some r.request ≡ None = sym r.is ∙ h in
+    cc
 
 -- the same try, by the request that the definition names
 pub same_request : (s s' : SideState) (w w' : WorldState) (stepped : Stepped) (events : List Event) (before after : Shown) (request : Request) (known : Option Request) → known ≡ Some request →
