@@ -20,6 +20,10 @@ same_count at faults = record { count = stays (has_failed at); stays = λ h. h }
     stays true = refl
     stays false = refl
 
+-- and steps behind it that end no side count nothing more
+pub counts_as : (before middle after : Outcome) (faults now : ℕ) → CountsFaults before middle faults now → has_failed after ≡ has_failed middle → CountsFaults before after faults now
+counts_as before middle after faults now c same = record { count = c.count ∙ ap (λ b. faults_turned (has_failed before) b faults) (sym same); stays = λ h. same ∙ c.stays h }
+
 by_step : (stepped : Stepped) (m : SideState) (faults : ℕ) → faults_after stepped faults ≡ faults_turned false (has_failed (outcome_by (end_of_step stepped) m)) faults
 by_step Made m faults = refl
 by_step NotYet m faults = refl
