@@ -12,7 +12,7 @@ use Rattle.mid_code.specs.Versions.{leading_versions, trailing_versions, version
 use Rattle.mid_code.specs.Fits.{IsValue}
 use Rattle.mid_code.specs.Machine.{Local, Machine, Goes, local_of, with_local, act}
 use Rattle.frames.specs.declared.alone.Stand.{Stand}
-use Rattle.frames.specs.Alone.{GoesBy, Names}
+use Rattle.frames.specs.Alone.{GoesBy, IsHeld, Names}
 
 -- the versions that a side runs
 abbrev pub versions_of : Side → SharedProgram → List Version
@@ -44,10 +44,15 @@ pub record Copies (side : Side) (program : SharedProgram) (function : ℕ) (befo
   pub copied : line.op ≡ Copied mid
   pub goes : GoesBy mid before from after to
 
--- what the code says of it: where it is none, or has not gone on, nothing has changed
+-- it is none, or it is held
+abbrev pub CopiesNone : Side → SharedProgram → ℕ → List ℕ → Stand → Type 0
+CopiesNone side program function before from =
+    (line : VersionLine) (mid : Mid) → version_at (versions_of side program) function from.place ≡ Some line → line.op ≡ Copied mid → IsHeld mid before from
+
+-- what the code says of it: where it is none, or is held, nothing has changed
 abbrev pub HasCopied : Side → SharedProgram → ℕ → List ℕ → Stand → List ℕ → Option Stand → Type 0
 HasCopied side program function before from after (Some to) = Copies side program function before from after to × IsKept before after
-HasCopied side program function before from after None = after ≡ before
+HasCopied side program function before from after None = (after ≡ before) × CopiesNone side program function before from
 
 -- so many of them, one after another
 abbrev pub CopiesMany : Side → SharedProgram → ℕ → ℕ → List ℕ → Stand → List ℕ → Stand → Type 0
@@ -64,6 +69,12 @@ pub record CopiesOn (side : Side) (program : SharedProgram) (before after : Mach
   pub copied : line.op ≡ Copied mid
   pub goes : act program.program mid line.line (local_of program.program before) ≡ Goes local
   pub leads : after ≡ with_local program.program local before
+
+-- its newest activation stands at no copied instruction, or at one that is held
+abbrev pub IsHeldOn : Side → SharedProgram → Machine → Type 0
+IsHeldOn side program m =
+    (line : VersionLine) (mid : Mid) (local : Local) → version_at (versions_of side program) m.top.function m.top.place ≡ Some line → line.op ≡ Copied mid →
+    act program.program mid line.line (local_of program.program m) ≡ Goes local → ⊥
 
 abbrev pub HasCopiedOn : Side → SharedProgram → ℕ → Machine → Machine → Type 0
 HasCopiedOn side program zero before after = after ≡ before

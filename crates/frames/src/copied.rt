@@ -1,8 +1,8 @@
-ghost use Rattle.std.specs.Prelude.{◌≡◌, ◌+◌, ◌^◌, ◌<◌, length, All};
+ghost use Rattle.std.specs.Prelude.{◌≡◌, ◌+◌, ◌-◌, ◌^◌, ◌<◌, length, All};
 ghost use Rattle.std.specs.Option.{option_copied};
 ghost use Rattle.mid_code.specs.Fits.{IsValue};
 ghost use Rattle.mid_code.specs.Versions.{version_at};
-ghost use Rattle.frames.specs.Copied.{versions_of, IsKept, CanCopyAll, HasCopied, CopiesMany};
+ghost use Rattle.frames.specs.Copied.{versions_of, IsKept, CanCopyAll, CopiesNone, HasCopied, CopiesMany};
 
 use crate::alone::{Stand, go_on};
 use mid_code::{Pair, VersionLine, VersionOp};
@@ -30,6 +30,9 @@ pub(crate) fn run_copied(
     requires small { All IsValue registers.old }
     ensures copies { CopiesMany side pair.now number result.count registers.old stand registers.new result.stand }
     ensures kept { IsKept registers.old registers.new }
+
+    // It ends where no more can be performed so, unless there were 2^32 - 1 of them.
+    ensures whole { result.count < 2 ^ 32 - 1 → CopiesNone side pair.now number registers.new result.stand }
 {
     let mut stand = stand;
     let mut count = 0;

@@ -9,7 +9,7 @@ ghost use Rattle.mid_code.specs.Machine.{activations, arguments, passed, moved_t
 ghost use Rattle.frames.specs.Kept.{with_machine, depths, fresh, pushed, IsPopped, newest_number};
 ghost use Rattle.frames.specs.Acts.{IsThere};
 ghost use Rattle.frames.specs.Alone.{IsWithinCode, ComesAlone};
-ghost use Rattle.frames.specs.Copied.{CanCopyAll, CopiesMany, HasCopiedOn};
+ghost use Rattle.frames.specs.Copied.{CanCopyAll, CopiesNone, CopiesMany, IsHeldOn, HasCopiedOn};
 
 use crate::alone::{Stand, run_code};
 use crate::copied::{Run, run_copied};
@@ -354,10 +354,12 @@ impl Frames {
     }
 
     /// Goes on in a side's version while its instructions are copied ones that need the registers of
-    /// the newest activation, its place and the turns of its part alone. Says how many there were.
+    /// the newest activation, its place and the turns of its part alone. Says how many there were: it
+    /// ends where no more can be performed so, unless there were 2^32 - 1 of them.
     pub fn run_copied(&mut self, pair: &Pair, side: Side) -> u32
         requires can { let a = self.old.machine.top in CanCopyAll side pair.now a.function (length a.registers) }
         ensures copies { HasCopiedOn side pair.now result self.old.machine self.new.machine }
+        ensures whole { result < 2 ^ 32 - 1 → IsHeldOn side pair.now self.new.machine }
         ensures room { self.new.room ≡ self.old.room }
     {
         let part = part_of(pair.classed().program(), self.top.function);
@@ -431,6 +433,7 @@ fn copy_row(
     ensures capacity { vec_capacity registers.new ≡ vec_capacity registers.old }
     ensures copies { CopiesMany side pair.now number result.count (drop base registers.old.items) stand (drop base registers.new.items) result.stand }
     ensures each { All IsValue (drop base registers.new.items) }
+    ensures whole { result.count < 2 ^ 32 - 1 → CopiesNone side pair.now number (drop base registers.new.items) result.stand }
 {
     run_copied(pair, side, number, &mut registers[base..], stand)
 }

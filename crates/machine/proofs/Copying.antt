@@ -1,47 +1,88 @@
 -- A run of copied instructions is one of quiet steps, and leaves a side that fits.
-use Rattle.std.proofs.Common.{◌≡◌, ℕ, zero, suc, [], Some, sym, ap, ap₂, ◌∙◌, subst, arith, length}
+use Rattle.std.proofs.Common.{◌≡◌, ℕ, zero, suc, [], Some, sym, ap, ap₂, ◌∙◌, subst, arith, length, List, false, refl}
 use Rattle.srmt_base.specs.declared.side.Side.{Side}
 use Rattle.srmt_base.specs.declared.side.Side.TheVariants.{Lead, Trail}
 use Rattle.mid_code.specs.declared.mid.Mid.{Mid}
 use Rattle.mid_code.specs.declared.program.MidFunction.{MidFunction}
 use Rattle.mid_code.specs.declared.version.VersionOp.{VersionOp}
-use Rattle.mid_code.specs.declared.version.VersionOp.TheVariants.{Copied}
+use Rattle.mid_code.specs.declared.version.VersionOp.TheVariants.{Copied, Ask, Await, Act, Check, Ack, End}
 use Rattle.mid_code.specs.declared.version.VersionLine.{VersionLine}
 use Rattle.mid_code.specs.Classes.{SharedProgram}
-use Rattle.mid_code.specs.Machine.{Local, Machine, Does, Goes, act}
+use Rattle.mid_code.specs.Machine.{Local, Machine, Does, Goes, Traps, local_of, act}
+use Rattle.mid_code.specs.declared.program.RegisterKind.{RegisterKind}
 use Rattle.mid_code.specs.Pairs.{HasSites}
-use Rattle.frames.specs.Copied.{IsKept, CanCopy, CanCopyAll, CopiesOn, HasCopiedOn}
+use Rattle.frames.specs.Copied.{IsKept, CanCopy, CanCopyAll, CopiesOn, IsHeldOn, HasCopiedOn}
 use Rattle.frames.proofs.AloneRuns.{names_all}
 use Rattle.world.specs.Requests.{wants_alone}
 use Rattle.world.specs.World.{WorldState, Over}
 use Rattle.machine.specs.Side.{SideState, Meet, Plain, StepGives, Went}
-use Rattle.machine.specs.Steps.{side_op, takes, may_send, takes_at, may_send_at, performed, quiet}
+use Rattle.machine.specs.Steps.{side_op, takes, may_send, takes_at, may_send_at, performed, quiet, wanted}
 use Rattle.machine.specs.Leading.{lead_op, lead_at, lead_next}
 use Rattle.machine.specs.Trailing.{trail_op, trail_at, trail_next}
 use Rattle.machine.specs.Meets.{next_of}
-use Rattle.machine.specs.Fits.{SideFits}
-use Rattle.machine.specs.Quiet.{IsQuiet, QuietSteps}
+use Rattle.machine.specs.Fits.{HoldsSmall, SideFits}
+use Rattle.machine.specs.Quiet.{IsQuiet, NoneQuiet, QuietSteps}
 use Rattle.machine.proofs.FirstForm.{GoesAlone, GoesOn, CopiedFits, OpFits}
 use Rattle.machine.proofs.Placed.{placed}
 use Rattle.machine.proofs.Standing.{heard_here}
+use Rattle.machine.proofs.Fitting.{op_fits}
 use Rattle.machine.proofs.Keeping.{lead_fits, trail_fits}
 
 -- a side whose machine is this
 abbrev pub with_machine : SideState → Machine → SideState
 with_machine s m = record s { at = record s.at { machine = m } }
 
-module _ (program : SharedProgram) (s : SideState) (w : WorldState) (meet : Meet) (l : VersionLine) (mid : Mid) (copied : l.op ≡ Copied mid) where
-  lead_copied : side_op Lead program s ≡ Some l → lead_next program s w meet ≡ lead_op program (Copied mid) l.line s w meet
+-- what an instruction of a side's version gives
+abbrev op_gives : Side → SharedProgram → VersionOp → ℕ → SideState → WorldState → Meet → StepGives
+op_gives Lead program op line s w meet = lead_op program op line s w meet
+op_gives Trail program op line s w meet = trail_op program op line s w meet
+
+module _ (program : SharedProgram) (s : SideState) (w : WorldState) (meet : Meet) (l : VersionLine) where
+  lead_here : side_op Lead program s ≡ Some l → lead_next program s w meet ≡ lead_op program l.op l.line s w meet
   unfolding lead_next
-  lead_copied at = ap (λ o. lead_at program o s w meet) at ∙ ap (λ (op : VersionOp). lead_op program op l.line s w meet) copied
+  lead_here at = ap (λ o. lead_at program o s w meet) at
 
-  trail_copied : side_op Trail program s ≡ Some l → trail_next program s w meet ≡ trail_op program (Copied mid) l.line s w meet
+  trail_here : side_op Trail program s ≡ Some l → trail_next program s w meet ≡ trail_op program l.op l.line s w meet
   unfolding trail_next
-  trail_copied at = ap (λ o. trail_at program o s w meet) at ∙ ap (λ (op : VersionOp). trail_op program op l.line s w meet) copied
+  trail_here at = ap (λ o. trail_at program o s w meet) at
 
-  next_copied : (side : Side) → side_op side program s ≡ Some l → next_of side program s w meet ≡ lead_op program (Copied mid) l.line s w meet
-  next_copied Lead at = lead_copied at
-  next_copied Trail at = trail_copied at
+  next_here : (side : Side) → side_op side program s ≡ Some l → next_of side program s w meet ≡ op_gives side program l.op l.line s w meet
+  next_here Lead at = lead_here at
+  next_here Trail at = trail_here at
+
+  -- a copied one gives the same on both sides
+  copied_gives : (side : Side) (mid : Mid) (line : ℕ) → op_gives side program (Copied mid) line s w meet ≡ quiet w (performed (wanted program mid line s) s)
+  copied_gives Lead mid line = refl
+  copied_gives Trail mid line = refl
+
+  next_copied : (side : Side) (mid : Mid) → l.op ≡ Copied mid → side_op side program s ≡ Some l → next_of side program s w meet ≡ quiet w (performed (wanted program mid l.line s) s)
+  next_copied side mid copied at = next_here side at ∙ ap (λ op. op_gives side program op l.line s w meet) copied ∙ copied_gives side mid l.line
+
+-- a step that is quiet is one of a copied instruction that goes on
+module _ (side : Side) (program : SharedProgram) (s next : SideState) (kinds : List RegisterKind) (line : ℕ) (count : length s.at.machine.top.registers ≡ length kinds) (small : HoldsSmall s) where
+  held_by : (d : Does) → GoesAlone s.at.machine.top d → ((local : Local) → d ≡ Goes local → ⊥) → performed (wants_alone program d s.at) s ≡ Went next → ⊥
+  held_by (Goes local) goes held h = held local refl
+  held_by (Traps trap at) goes held h = cc
+  held_by _ goes held h = goes
+
+  held_copied : (mid : Mid) → CopiedFits kinds mid → ((local : Local) → act program.program mid line (local_of program.program s.at.machine) ≡ Goes local → ⊥) → performed (wanted program mid line s) s ≡ Went next → ⊥
+  held_copied mid good held h =
+      let l = local_of program.program s.at.machine in
+      held_by (act program.program mid line l) (good.goes program.program line l count small) held h
+
+  held_op : (side : Side) (op : VersionOp) → OpFits side kinds op → takes op ≡ false → may_send op ≡ false →
+      ((mid : Mid) (local : Local) → op ≡ Copied mid → act program.program mid line (local_of program.program s.at.machine) ≡ Goes local → ⊥) →
+      (op_gives side program op line s Over Plain).outcome ≡ Went next → ⊥
+  held_op Lead (Copied mid) fits t m held h = held_copied mid fits (λ local. held mid local refl) h
+  held_op Trail (Copied mid) fits t m held h = held_copied mid fits (λ local. held mid local refl) h
+  held_op Lead (Ask site args) fits t m held h = cc
+  held_op Lead (Await site args) fits t m held h = cc
+  held_op Lead (Act site request target function args) fits t m held h = cc
+  held_op Lead _ fits t m held h = fits
+  held_op Trail (Check site source) fits t m held h = cc
+  held_op Trail (Ack site args) fits t m held h = cc
+  held_op Trail (End source) fits t m held h = cc
+  held_op Trail _ fits t m held h = fits
 
 next_fits : (side : Side) (program : SharedProgram) (s after : SideState) (w : WorldState) (meet : Meet) → HasSites program → SideFits side program s → (next_of side program s w meet).outcome ≡ Went after → SideFits side program after
 next_fits Lead program s after w meet sites fits h = lead_fits program s after w meet sites fits h
@@ -76,7 +117,7 @@ module _ (side : Side) (program : SharedProgram) (sites : HasSites program) wher
       record {
         takes_none = ap takes_at c.at ∙ ap takes c.copied;
         sends_none = ap may_send_at c.at ∙ ap may_send c.copied;
-        gives = λ w meet. next_copied program s w meet c.line c.mid c.copied side c.at
+        gives = λ w meet. next_copied program s w meet c.line side c.mid c.copied c.at
             ∙ ap (λ d. quiet w (performed (wants_alone program d s.at) s)) c.goes ∙ ap (λ (t : SideState). quiet w (Went t)) stands;
       }
 
@@ -90,3 +131,10 @@ module _ (side : Side) (program : SharedProgram) (sites : HasSites program) wher
         (with_machine s c.0, so_far.0, step),
         next_fits side program (with_machine s c.0) (with_machine s after) Over Plain sites so_far.1 (ap (λ (g : StepGives). g.outcome) (step.gives Over Plain)),
       )
+
+  -- where the machine is held, no further step is quiet
+  pub none_quiet : (s : SideState) → SideFits side program s → IsHeldOn side program s.at.machine → NoneQuiet side program s
+  none_quiet s fits held next q =
+      held_op side program s next fits.function.kinds fits.line.line fits.registers fits.each side fits.line.op (op_fits side program s sites fits)
+      (sym (ap takes_at fits.at) ∙ q.takes_none) (sym (ap may_send_at fits.at) ∙ q.sends_none) (λ mid local copied goes. held fits.line mid local fits.at copied goes)
+      (ap (λ (g : StepGives). g.outcome) (sym (next_here program s Over Plain fits.line side fits.at) ∙ q.gives Over Plain))

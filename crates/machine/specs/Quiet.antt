@@ -17,3 +17,7 @@ pub record IsQuiet (side : Side) (program : SharedProgram) (s next : SideState) 
 abbrev pub QuietSteps : Side → SharedProgram → ℕ → SideState → SideState → Type 0
 QuietSteps side program zero s after = after ≡ s
 QuietSteps side program (suc n) s after = (before : SideState) × QuietSteps side program n s before × IsQuiet side program before after
+
+-- no further step is one
+abbrev pub NoneQuiet : Side → SharedProgram → SideState → Type 0
+NoneQuiet side program s = (next : SideState) → IsQuiet side program s next → ⊥

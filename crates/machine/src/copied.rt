@@ -1,5 +1,6 @@
+ghost use Rattle.std.specs.Prelude.{◌-◌, ◌^◌, ◌<◌};
 ghost use Rattle.machine.specs.Fits.{SideFits};
-ghost use Rattle.machine.specs.Quiet.{QuietSteps};
+ghost use Rattle.machine.specs.Quiet.{NoneQuiet, QuietSteps};
 
 use crate::machine::Machine;
 use mid_code::Pair;
@@ -11,6 +12,9 @@ use srmt_base::Side;
 pub fn run_copied(pair: &Pair, m: &mut Machine, side: Side) -> u32
     requires fits { SideFits side pair.now m.old }
     ensures steps { QuietSteps side pair.now result m.old m.new }
+
+    // It ends where no further step is one that asks nothing and goes on, unless there were 2^32 - 1.
+    ensures whole { result < 2 ^ 32 - 1 → NoneQuiet side pair.now m.new }
     ensures fits { SideFits side pair.now m.new }
 {
     // The call is for the proof: a pair is one of a program of the first form.

@@ -43,4 +43,18 @@ returns-clause-copies c =
     let part = rw program_is at c.part_of-part.ensures in
     subst (λ (x : Machine). HasCopiedOn c.args.side c.args.pair.now run.count x (machine_in rs2 a.objects.items (record a.top { place = run.stand.place }) a.below.items c.with-self-inside.result)) here
     (copies_whole c.args.side c.args.pair.now m run.count (drop a.top.base a.registers.items) (drop a.top.base rs2) run.stand c.part_of-part.result c.of-left.result c.with-self-inside.result _
-    part c.of-left.ensures own c.with-self-inside.ensures rows c.copy_row-run.ensures.copies)
+    part c.of-left.ensures own c.with-self-inside.ensures rows c.copy_row-run.ensures.copies).0
+
+pub returns-clause-whole : goal.returns-clause-whole
+returns-clause-whole c few =
+    let a = c.self.inside in
+    let k = c.self.invariant in
+    let rs2 = c.copy_row-run.new.registers.items in
+    let run = c.copy_row-run.result in
+    let m : Machine = machine_in a.registers.items a.objects.items a.top a.below.items a.budgets in
+    let own = own_registers a.registers.items a.objects.items a.top a.below.items k.laid in
+    let rows = ran-rows a.registers.items rs2 a.objects.items a.top a.below.items a.budgets c.with-self-inside.result run.stand.place k.laid c.copy_row-run.ensures.count c.copy_row-run.ensures.before in
+    let program_is : c.program.result.now ≡ c.args.pair.now.program = c.program.ensures.same ∙ ap (λ (x : SharedProgram). x.program) c.classed.ensures.same in
+    let part = rw program_is at c.part_of-part.ensures in
+    (copies_whole c.args.side c.args.pair.now m run.count (drop a.top.base a.registers.items) (drop a.top.base rs2) run.stand c.part_of-part.result c.of-left.result c.with-self-inside.result _
+    part c.of-left.ensures own c.with-self-inside.ensures rows c.copy_row-run.ensures.copies).1 (c.copy_row-run.ensures.whole few)
