@@ -21,7 +21,7 @@ use Rattle.world.specs.World.{WorldState, Lives, Over, is_live, ask_living, ask}
 use Rattle.word_stream.specs.declared.request.Request.{Request}
 use Rattle.word_stream.specs.Reading.{request_of}
 use Rattle.machine.specs.declared.stepped.Stepped.{Stepped}
-use Rattle.machine.specs.declared.stepped.Stepped.TheVariants.{Went as Made, NotYet, Ended as MadeLast}
+use Rattle.machine.specs.declared.stepped.Stepped.TheVariants.{Made, NotYet, MadeLast}
 use Rattle.machine.specs.Side.{SideState, Meet, Plain, Got, Closed, Failed, Went}
 use Rattle.machine.specs.Steps.{side_op, takes, may_send, takes_at, may_send_at, holds, operands}
 use Rattle.machine.specs.Leading.{act_request, acts, acts_by, lead_op, lead_at, lead_next}

@@ -10,7 +10,7 @@ use Rattle.mid_code.specs.declared.version.VersionLine.{VersionLine}
 use Rattle.mid_code.specs.Program.{function_at}
 use Rattle.mid_code.specs.Machine.{Does, Goes, Calls, Leaves, Traps, Reaches, Lost}
 use Rattle.machine.specs.declared.stepped.Stepped.{Stepped}
-use Rattle.machine.specs.declared.stepped.Stepped.TheVariants.{Went, NotYet, Ended}
+use Rattle.machine.specs.declared.stepped.Stepped.TheVariants.{Made, NotYet, MadeLast}
 use Rattle.world.specs.World.{WorldState, is_live}
 use Rattle.machine.specs.Side.{SideState}
 use Rattle.machine.specs.Steps.{side_op}
@@ -77,12 +77,12 @@ pub record SideFits (side : Side) (program : SharedProgram) (s : SideState) : Ty
 
 -- a side that has not ended fits after a step
 abbrev pub FitsAfter : Stepped → Side → SharedProgram → SideState → Type 0
-FitsAfter Went side program s = SideFits side program s
+FitsAfter Made side program s = SideFits side program s
 FitsAfter NotYet side program s = SideFits side program s
-FitsAfter (Ended end) side program s = Unit {0}
+FitsAfter (MadeLast end) side program s = Unit {0}
 
 -- and its world answers on
 abbrev pub LivesAfter : Stepped → WorldState → Type 0
-LivesAfter Went w = IsTrue (is_live w)
+LivesAfter Made w = IsTrue (is_live w)
 LivesAfter NotYet w = IsTrue (is_live w)
-LivesAfter (Ended end) w = Unit {0}
+LivesAfter (MadeLast end) w = Unit {0}

@@ -32,9 +32,9 @@ pub(crate) fn perform_copied(pair: &Pair, m: &mut Machine, mid: Mid, line: u32) 
     match perform(&mut m.frames, program, &MidLine { line, mid }) {
         Did::Went => {
             m.heard.clear();
-            Stepped::Went
+            Stepped::Made
         }
-        Did::Trapped(trap, line) => Stepped::Ended(ThreadEnd::Trap(trap, line)),
+        Did::Trapped(trap, line) => Stepped::MadeLast(ThreadEnd::Trap(trap, line)),
         Did::Called { .. } | Did::Left(_) | Did::Wants(_) => unreachable!(),
     }
 }
@@ -74,5 +74,5 @@ pub(crate) fn send_operands<L: Link>(
     }
     send_each(m, kind, site, args, link);
     m.pass();
-    Stepped::Went
+    Stepped::Made
 }

@@ -7,7 +7,7 @@ use Rattle.srmt_base.specs.declared.side.Side.TheVariants.{Lead, Trail}
 use Rattle.mid_code.specs.Classes.{SharedProgram}
 use Rattle.mid_code.specs.Pairs.{HasSites}
 use Rattle.machine.specs.declared.stepped.Stepped.{Stepped}
-use Rattle.machine.specs.declared.stepped.Stepped.TheVariants.{Went as Made, NotYet, Ended as MadeLast}
+use Rattle.machine.specs.declared.stepped.Stepped.TheVariants.{Made, NotYet, MadeLast}
 use Rattle.machine.specs.Side.{SideState, Outcome, Went, Ended}
 use Rattle.machine.proofs.Fitting.{fits_opening}
 use Rattle.machine.specs.Upset.{no_upsets}

@@ -6,7 +6,7 @@ use Rattle.verdicts.specs.declared.thread_end.ThreadEnd.{ThreadEnd}
 use Rattle.verdicts.specs.declared.thread_end.ThreadEnd.TheVariants.{Exit, Trap, Mismatch, Echo, PeerEnded, WriteFault}
 use Rattle.verdicts.specs.Verdict.{verdict_of_ends, exit_verdict, stopped_by, trap_verdict}
 use Rattle.machine.specs.declared.stepped.Stepped.{Stepped}
-use Rattle.machine.specs.declared.stepped.Stepped.TheVariants.{Went as Made, NotYet, Ended as MadeLast}
+use Rattle.machine.specs.declared.stepped.Stepped.TheVariants.{Made, NotYet, MadeLast}
 use Rattle.machine.specs.Faults.{faults_after}
 use Rattle.machine.specs.Side.{SideState, Outcome, Went}
 use Rattle.pair_core.specs.Turns.{outcome_by, end_of_step}

@@ -52,8 +52,8 @@ fn end_of(stepped: &Stepped) -> Option<ThreadEnd>
     ensures { result ≡ end_of_step stepped.now }
 {
     match stepped {
-        Stepped::Ended(end) => Some(*end),
-        Stepped::Went | Stepped::NotYet => None,
+        Stepped::MadeLast(end) => Some(*end),
+        Stepped::Made | Stepped::NotYet => None,
     }
 }
 
@@ -124,7 +124,7 @@ impl Duo {
         ensures faults { CountsFaults self.old.lead self.new.lead (O.faults outlet.old) (O.faults outlet.new) }
     {
         if let Some(end) = &self.lead_over {
-            return Stepped::Ended(*end);
+            return Stepped::MadeLast(*end);
         }
         let over = self.trail_over.is_some();
         let mut link = OneStep::new(self.acks.offer(over), self.words.spare(over), false);
@@ -149,7 +149,7 @@ impl Duo {
         ensures same { self.new.lead ≡ self.old.lead }
     {
         if let Some(end) = &self.trail_over {
-            return Stepped::Ended(*end);
+            return Stepped::MadeLast(*end);
         }
         let over = self.lead_over.is_some();
         let mut link = OneStep::new(self.words.offer(over), self.acks.spare(over), false);

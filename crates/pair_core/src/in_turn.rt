@@ -51,7 +51,7 @@ fn turn<O: Outlet>(duo: &mut Duo, pair: &Pair, outlet: &mut O, side: Side) -> Si
 {
     let stepped = duo.run(pair, outlet, side);
     match (&stepped, side) {
-        (Stepped::Went, _) => side,
+        (Stepped::Made, _) => side,
         (_, Side::Lead) => Side::Trail,
         (_, Side::Trail) => Side::Lead,
     }

@@ -8,7 +8,7 @@ use Rattle.world.specs.World.{WorldState, Over}
 use Rattle.machine.specs.declared.link_call.Taken.TheVariants.{NotYet}
 use Rattle.machine.specs.OneStep.{unasked}
 use Rattle.verdicts.specs.declared.thread_end.ThreadEnd.TheVariants.{Exit as ExitEnd}
-use Rattle.machine.specs.declared.stepped.Stepped.TheVariants.{Ended as MadeLast}
+use Rattle.machine.specs.declared.stepped.Stepped.TheVariants.{MadeLast}
 use Rattle.machine.specs.Side.{Ended}
 use Rattle.machine.specs.Link.{Shown}
 use Rattle.machine.proofs.Trying.{was_quiet}
