@@ -15,7 +15,7 @@ use Rattle.mid_code.specs.Fits.{IsValue}
 use Rattle.mid_code.specs.Machine.{Local, Machine, part_of_function, local_of, with_local, act}
 use Rattle.frames.specs.declared.alone.Stand.{Stand}
 use Rattle.frames.specs.Alone.{local_at, IsHeld, HasStepped}
-use Rattle.frames.specs.Copied.{versions_of, IsKept, CanCopy, Copies, HasCopied, CopiesNone, CopiesMany, CopiesOn, IsHeldOn, HasCopiedOn}
+use Rattle.frames.specs.Copied.{versions_of, IsKept, CanCopy, Copies, HasCopied, CopiesNone, CopiesMany, CopiesOn, IsHeldOn, CopiesManyOn}
 use Rattle.frames.proofs.Gone.{same_budget}
 use Rattle.frames.proofs.AloneRuns.{alone_at, budget_back, budget_again}
 
@@ -65,7 +65,7 @@ module _ (side : Side) (program : SharedProgram) (m : Machine) where
         leads = ap (λ (b : Budgets). record m { top = next.at; budgets = b }) (sym (budget_again part l.budget next.budget m.budgets));
       }
 
-  many_on : (n : ℕ) (before after : List ℕ) (from to : Stand) → CopiesMany side program m.top.function n before from after to → HasCopiedOn side program n (machine_at before from) (machine_at after to)
+  many_on : (n : ℕ) (before after : List ℕ) (from to : Stand) → CopiesMany side program m.top.function n before from after to → CopiesManyOn side program n (machine_at before from) (machine_at after to)
   many_on zero before after from to c = ap₂ machine_at c.0 c.1
   many_on (suc n) before after from to c = (machine_at c.0 c.1, many_on n before c.0 from c.1 c.2, on_machine c.0 after c.1 to c.3)
 
@@ -84,7 +84,7 @@ module _ (side : Side) (program : SharedProgram) (m : Machine) where
       budgets ≡ with_budget part (record { turns = end.turns; depth = left.depth }) m.budgets →
       after ≡ record m { top = record m.top { place = end.place; registers = own }; budgets = budgets } →
       CopiesMany side program m.top.function n registers (record { place = m.top.place; turns = left.turns }) own end →
-      HasCopiedOn side program n m after × (CopiesNone side program m.top.function own end → IsHeldOn side program after)
+      CopiesManyOn side program n m after × (CopiesNone side program m.top.function own end → IsHeldOn side program after)
   copies_whole n registers own end part left budgets after part_is left_is own_is budgets_is after_is copies =
       let p = part_of_function program.program m.top.function in
       let budget : left ≡ budget_of p m.budgets = left_is ∙ ap (λ q. budget_of q m.budgets) part_is in
@@ -96,6 +96,6 @@ module _ (side : Side) (program : SharedProgram) (m : Machine) where
       let last : machine_at own end ≡ after =
       ap (λ (b : Budgets). record m { top = record m.top { place = end.place; registers = own }; budgets = b }) spent_so ∙ sym after_is in
       let all = many_on n registers own (record { place = m.top.place; turns = left.turns }) end copies in (
-        subst (λ (x : Machine). HasCopiedOn side program n m x) last (subst (λ (x : Machine). HasCopiedOn side program n x (machine_at own end)) first all),
+        subst (λ (x : Machine). CopiesManyOn side program n m x) last (subst (λ (x : Machine). CopiesManyOn side program n x (machine_at own end)) first all),
         λ none. subst (IsHeldOn side program) last (held_on own end none),
       )

@@ -70,12 +70,13 @@ pub record CopiesOn (side : Side) (program : SharedProgram) (before after : Mach
   pub goes : act program.program mid line.line (local_of program.program before) ≡ Goes local
   pub leads : after ≡ with_local program.program local before
 
--- its newest activation stands at no copied instruction, or at one that is held
+-- the machine's newest activation stands at no copied instruction, or at one that is held
 abbrev pub IsHeldOn : Side → SharedProgram → Machine → Type 0
 IsHeldOn side program m =
     (line : VersionLine) (mid : Mid) (local : Local) → version_at (versions_of side program) m.top.function m.top.place ≡ Some line → line.op ≡ Copied mid →
     act program.program mid line.line (local_of program.program m) ≡ Goes local → ⊥
 
-abbrev pub HasCopiedOn : Side → SharedProgram → ℕ → Machine → Machine → Type 0
-HasCopiedOn side program zero before after = after ≡ before
-HasCopiedOn side program (suc n) before after = (m : Machine) × HasCopiedOn side program n before m × CopiesOn side program m after
+-- so many of them, one after another, by a machine
+abbrev pub CopiesManyOn : Side → SharedProgram → ℕ → Machine → Machine → Type 0
+CopiesManyOn side program zero before after = after ≡ before
+CopiesManyOn side program (suc n) before after = (m : Machine) × CopiesManyOn side program n before m × CopiesOn side program m after

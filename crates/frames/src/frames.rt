@@ -9,7 +9,7 @@ ghost use Rattle.mid_code.specs.Machine.{activations, arguments, passed, moved_t
 ghost use Rattle.frames.specs.Kept.{with_machine, depths, fresh, pushed, IsPopped, newest_number};
 ghost use Rattle.frames.specs.Acts.{IsThere};
 ghost use Rattle.frames.specs.Alone.{IsWithinCode, ComesAlone};
-ghost use Rattle.frames.specs.Copied.{CanCopyAll, CopiesNone, CopiesMany, IsHeldOn, HasCopiedOn};
+ghost use Rattle.frames.specs.Copied.{CanCopyAll, CopiesNone, CopiesMany, IsHeldOn, CopiesManyOn};
 
 use crate::alone::{Stand, run_code};
 use crate::copied::{Run, run_copied};
@@ -358,7 +358,7 @@ impl Frames {
     /// ends where no more can be performed so, unless there were 2^32 - 1 of them.
     pub fn run_copied(&mut self, pair: &Pair, side: Side) -> u32
         requires can { let a = self.old.machine.top in CanCopyAll side pair.now a.function (length a.registers) }
-        ensures copies { HasCopiedOn side pair.now result self.old.machine self.new.machine }
+        ensures copies { CopiesManyOn side pair.now result self.old.machine self.new.machine }
         ensures whole { result < 2 ^ 32 - 1 → IsHeldOn side pair.now self.new.machine }
         ensures room { self.new.room ≡ self.old.room }
     {

@@ -11,7 +11,7 @@ use Rattle.mid_code.specs.Classes.{SharedProgram}
 use Rattle.mid_code.specs.Machine.{Local, Machine, Does, Goes, Traps, local_of, act}
 use Rattle.mid_code.specs.declared.program.RegisterKind.{RegisterKind}
 use Rattle.mid_code.specs.Pairs.{HasSites}
-use Rattle.frames.specs.Copied.{IsKept, CanCopy, CanCopyAll, CopiesOn, IsHeldOn, HasCopiedOn}
+use Rattle.frames.specs.Copied.{IsKept, CanCopy, CanCopyAll, CopiesOn, IsHeldOn, CopiesManyOn}
 use Rattle.frames.proofs.AloneRuns.{names_all}
 use Rattle.world.specs.Requests.{wants_alone}
 use Rattle.world.specs.World.{WorldState, Over}
@@ -122,7 +122,7 @@ module _ (side : Side) (program : SharedProgram) (sites : HasSites program) wher
       }
 
   -- and more of them
-  pub quiet_steps : (n : ℕ) (s : SideState) (after : Machine) → SideFits side program s → HasCopiedOn side program n s.at.machine after →
+  pub quiet_steps : (n : ℕ) (s : SideState) (after : Machine) → SideFits side program s → CopiesManyOn side program n s.at.machine after →
       QuietSteps side program n s (with_machine s after) × SideFits side program (with_machine s after)
   quiet_steps zero s after fits same = let e : with_machine s after ≡ s = ap (with_machine s) same in (e, subst (SideFits side program) (sym e) fits)
   quiet_steps (suc n) s after fits c =

@@ -4,7 +4,7 @@ use Rattle.srmt_base.specs.Budgets.{budget_of}
 use Rattle.mid_code.specs.Classes.{SharedProgram}
 use Rattle.mid_code.specs.Machine.{Machine}
 use Rattle.frames.specs.Kept.{Kept, machine_in, depths}
-use Rattle.frames.specs.Copied.{CanCopyAll, HasCopiedOn}
+use Rattle.frames.specs.Copied.{CanCopyAll, CopiesManyOn}
 use Rattle.frames.proofs.Gone.{depths_with}
 use Rattle.frames.proofs.Rows.{kept_ran, own_registers, ran-rows}
 use Rattle.frames.proofs.CopiesRun.{copies_whole}
@@ -41,7 +41,7 @@ returns-clause-copies c =
     let rows = ran-rows a.registers.items rs2 a.objects.items a.top a.below.items a.budgets c.with-self-inside.result run.stand.place k.laid c.copy_row-run.ensures.count c.copy_row-run.ensures.before in
     let program_is : c.program.result.now ≡ c.args.pair.now.program = c.program.ensures.same ∙ ap (λ (x : SharedProgram). x.program) c.classed.ensures.same in
     let part = rw program_is at c.part_of-part.ensures in
-    subst (λ (x : Machine). HasCopiedOn c.args.side c.args.pair.now run.count x (machine_in rs2 a.objects.items (record a.top { place = run.stand.place }) a.below.items c.with-self-inside.result)) here
+    subst (λ (x : Machine). CopiesManyOn c.args.side c.args.pair.now run.count x (machine_in rs2 a.objects.items (record a.top { place = run.stand.place }) a.below.items c.with-self-inside.result)) here
     (copies_whole c.args.side c.args.pair.now m run.count (drop a.top.base a.registers.items) (drop a.top.base rs2) run.stand c.part_of-part.result c.of-left.result c.with-self-inside.result _
     part c.of-left.ensures own c.with-self-inside.ensures rows c.copy_row-run.ensures.copies).0
 
