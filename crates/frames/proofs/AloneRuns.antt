@@ -24,11 +24,11 @@ use Rattle.frames.specs.declared.alone.Stand.{Stand}
 use Rattle.frames.specs.Acts.{CanAct}
 use Rattle.frames.specs.Alone.{local_at, state_at, GoesBy, Names, IsWithinCode}
 
-budget_back : (part : Part) (budget : Budget) (budgets : Budgets) → budget_of part (with_budget part budget budgets) ≡ budget
+pub budget_back : (part : Part) (budget : Budget) (budgets : Budgets) → budget_of part (with_budget part budget budgets) ≡ budget
 budget_back Protected budget budgets = refl
 budget_back Binary budget budgets = refl
 
-budget_again : (part : Part) (first second : Budget) (budgets : Budgets) → with_budget part second (with_budget part first budgets) ≡ with_budget part second budgets
+pub budget_again : (part : Part) (first second : Budget) (budgets : Budgets) → with_budget part second (with_budget part first budgets) ≡ with_budget part second budgets
 budget_again Protected first second budgets = refl
 budget_again Binary first second budgets = refl
 

@@ -5,3 +5,4 @@ pub mod StaticRows
 pub mod AloneRuns
 pub mod SoundStatics
 pub mod FewObjects
+pub mod CopiesRun

@@ -1,5 +1,5 @@
 -- The static objects of a valid program can be set up.
-use Rattle.std.proofs.Common.{◌≡◌, ℕ, zero, suc, ◌<◌, ◌≤◌, ◌^◌, List, [], ◌∷◌, length, false, arith}
+use Rattle.std.proofs.Common.{◌≡◌, ℕ, zero, suc, ◌<◌, ◌^◌, List, [], ◌∷◌, length, false, arith}
 use Rattle.std.specs.Prelude.{All, ◌-◌, ◌==◌, ◌||◌, ◌&&◌, nat_lt, nat_le, slice_index, sum_by}
 use Rattle.std.specs.List.{list_any}
 use Rattle.std.proofs.lemmas.Bool.{ltb-false, leb-false}

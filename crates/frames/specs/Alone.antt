@@ -31,10 +31,14 @@ abbrev pub GoesBy : Mid → List ℕ → Stand → List ℕ → Stand → Type 0
 GoesBy mid before from after to =
     (program : MidProgram) (line : ℕ) (l : Local) → act program mid line (local_at l before from) ≡ Goes (local_at l after to)
 
--- what an instruction did: it has gone on, or nothing has changed
+-- an instruction needs more, or stops the run
+abbrev pub IsHeld : Mid → List ℕ → Stand → Type 0
+IsHeld mid before from = (program : MidProgram) (line : ℕ) (l next : Local) → act program mid line (local_at l before from) ≡ Goes next → ⊥
+
+-- what an instruction did: it has gone on, or it is held and nothing has changed
 abbrev pub HasStepped : Mid → List ℕ → Stand → List ℕ → Option Stand → Type 0
 HasStepped mid before from after (Some to) = GoesBy mid before from after to
-HasStepped mid before from after None = after ≡ before
+HasStepped mid before from after None = (after ≡ before) × IsHeld mid before from
 
 -- the registers that an instruction of these reads and writes are there
 abbrev pub Names : Mid → ℕ → Type 0

@@ -3,3 +3,4 @@ pub mod Acts
 pub mod Reaching
 pub mod Statics
 pub mod Alone
+pub mod Copied

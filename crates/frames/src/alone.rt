@@ -43,7 +43,7 @@ pub(crate) fn run_code(
 /// Performs an instruction that needs the registers, the place and turns alone, and does not trap.
 /// `None` where it is another one.
 #[inline(always)]
-fn go_on(registers: &mut [u64], stand: Stand, mid: &Mid) -> Option<Stand>
+pub(crate) fn go_on(registers: &mut [u64], stand: Stand, mid: &Mid) -> Option<Stand>
     requires place { stand.place + 1 < 2 ^ 32 }
     requires names { Names mid.now (length registers.old) }
     ensures { HasStepped mid.now registers.old stand registers.new result }

@@ -9,11 +9,13 @@ ghost use Rattle.mid_code.specs.Machine.{activations, arguments, passed, moved_t
 ghost use Rattle.frames.specs.Kept.{with_machine, depths, fresh, pushed, IsPopped, newest_number};
 ghost use Rattle.frames.specs.Acts.{IsThere};
 ghost use Rattle.frames.specs.Alone.{IsWithinCode, ComesAlone};
+ghost use Rattle.frames.specs.Copied.{CanCopyAll, CopiesNone, CopiesMany, IsHeldOn, CopiesManyOn};
 
 use crate::alone::{Stand, run_code};
+use crate::copied::{Run, run_copied};
 use crate::entry::part_of;
-use mid_code::{MidProgram, Registers};
-use srmt_base::{Args, Budget, Budgets, Part};
+use mid_code::{MidProgram, Pair, Registers};
+use srmt_base::{Args, Budget, Budgets, Part, Side};
 use std::alloc::{AllocError, Global};
 use std::marker::Model;
 
@@ -350,6 +352,33 @@ impl Frames {
         };
         self.budgets = self.budgets.with(part, left);
     }
+
+    /// Goes on in a side's version while its instructions are copied ones that need the registers of
+    /// the newest activation, its place and the turns of its part alone. Says how many there were: it
+    /// ends where no more can be performed so, unless there were 2^32 - 1 of them.
+    pub fn run_copied(&mut self, pair: &Pair, side: Side) -> u32
+        requires can { let a = self.old.machine.top in CanCopyAll side pair.now a.function (length a.registers) }
+        ensures copies { CopiesManyOn side pair.now result self.old.machine self.new.machine }
+        ensures whole { result < 2 ^ 32 - 1 → IsHeldOn side pair.now self.new.machine }
+        ensures room { self.new.room ≡ self.old.room }
+    {
+        let part = part_of(pair.classed().program(), self.top.function);
+        let left = self.budgets.of(part);
+        let stand = Stand {
+            place: self.top.place,
+            turns: left.turns,
+        };
+        let base = self.top.base as usize;
+        let function = self.top.function;
+        let run = copy_row(pair, side, function, &mut self.registers, base, stand);
+        self.top.place = run.stand.place;
+        let left = Budget {
+            turns: run.stand.turns,
+            depth: left.depth,
+        };
+        self.budgets = self.budgets.with(part, left);
+        run.count
+    }
 }
 
 /// Appends the registers of an activation that are named.
@@ -385,4 +414,26 @@ fn run_row(
     ensures within { IsWithinCode program.now number result.place (drop base registers.new.items) }
 {
     run_code(program, number, &mut registers[base..], stand)
+}
+
+/// Performs copied instructions so with the registers of an activation from a place of the row on.
+fn copy_row(
+    pair: &Pair,
+    side: Side,
+    number: u16,
+    registers: &mut Vec<u64>,
+    base: usize,
+    stand: Stand,
+) -> Run
+    requires base { base ≤ vec_len registers.old }
+    requires can { CanCopyAll side pair.now number (length (drop base registers.old.items)) }
+    requires small { All IsValue (drop base registers.old.items) }
+    ensures before { take base registers.new.items ≡ take base registers.old.items }
+    ensures count { length registers.new.items ≡ length registers.old.items }
+    ensures capacity { vec_capacity registers.new ≡ vec_capacity registers.old }
+    ensures copies { CopiesMany side pair.now number result.count (drop base registers.old.items) stand (drop base registers.new.items) result.stand }
+    ensures each { All IsValue (drop base registers.new.items) }
+    ensures whole { result.count < 2 ^ 32 - 1 → CopiesNone side pair.now number (drop base registers.new.items) result.stand }
+{
+    run_copied(pair, side, number, &mut registers[base..], stand)
 }

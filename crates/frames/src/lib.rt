@@ -9,6 +9,7 @@
 
 mod act;
 mod alone;
+mod copied;
 mod entry;
 mod frames;
 mod input;

@@ -1,17 +1,10 @@
 -- A side that fits stands at an instruction that fits, and fits after it.
-use Rattle.std.proofs.Common.{◌≡◌, ℕ, ◌+◌, ◌-◌, ◌<◌, ◌^◌, List, [], length, Option, Some, None, refl, sym, ap, ap₂, ◌∙◌, subst, arith}
-use Rattle.std.specs.Prelude.{All, replicate}
-use Rattle.std.proofs.lemmas.List.{length-set}
-use Rattle.std.proofs.lemmas.List.Elements.{All-nil, All-set}
+use Rattle.std.proofs.Common.{◌≡◌, ℕ, ◌+◌, List, [], length, Option, Some, refl, sym, ap, ◌∙◌, subst, arith}
+use Rattle.std.proofs.lemmas.List.Elements.{All-nil}
 use Rattle.srmt_base.specs.declared.limits.Limits.{Limits}
 use Rattle.srmt_base.specs.declared.side.Side.{Side}
 use Rattle.srmt_base.specs.declared.side.Side.TheVariants.{Lead, Trail}
-use Rattle.srmt_base.specs.Budgets.{full_budget, spent}
-use Rattle.srmt_base.specs.Statics.{static_cells}
-use Rattle.srmt_base.specs.Convert.{convert_of}
-use Rattle.srmt_base.proofs.Ranges.{convert_of-lt}
 use Rattle.mid_code.specs.declared.mid.Mid.{Mid}
-use Rattle.mid_code.specs.declared.mid.Mid.TheVariants.{Const, Conv, Put, Exit}
 use Rattle.mid_code.specs.declared.program.RegisterKind.{RegisterKind}
 use Rattle.mid_code.specs.declared.program.MidFunction.{MidFunction}
 use Rattle.mid_code.specs.declared.program.MidProgram.{MidProgram}
@@ -20,21 +13,20 @@ use Rattle.mid_code.specs.declared.version.VersionOp.TheVariants.{Copied, Ask, A
 use Rattle.mid_code.specs.Program.{function_at}
 use Rattle.mid_code.specs.Classes.{SharedProgram}
 use Rattle.mid_code.specs.Fits.{IsValue}
-use Rattle.mid_code.specs.Machine.{Activation, register, given, local_of, with_local}
+use Rattle.mid_code.specs.Machine.{Does, Goes, Traps, local_of, with_local, act}
 use Rattle.mid_code.specs.Pairs.{HasSites}
 use Rattle.mid_code.specs.Versions.{version_at}
 use Rattle.mid_code.proofs.Naming.{function_kept}
 use Rattle.mid_code.proofs.StartFits.{with_main}
 use Rattle.mid_code.proofs.Values.{first_registers, one_within}
 use Rattle.mid_code.proofs.VersionGroups.{some_size, class_at}
-use Rattle.world.specs.Standing.{Own, Standing, started_own}
-use Rattle.world.specs.Requests.{Runs}
+use Rattle.world.specs.Standing.{Standing, started_own}
+use Rattle.world.specs.Requests.{Runs, wants_alone}
 use Rattle.world.proofs.Plain.{is_main, is_protected}
 use Rattle.machine.specs.Side.{SideState, opening}
 use Rattle.machine.specs.Steps.{versions_of, wanted}
 use Rattle.machine.specs.Fits.{HeardFits, SideFits, HoldsSmall}
-use Rattle.machine.proofs.FirstForm.{AreFit}
-use Rattle.machine.proofs.Groups.{table_of, table_sized, IsLast, OpFits}
+use Rattle.machine.proofs.FirstForm.{GoesOn, GoesAlone, CopiedFits, table_of, table_sized, IsLast, OpFits}
 use Rattle.machine.proofs.Placed.{Placed, placed, there}
 
 -- no acknowledgement is kept at the start of an instruction
@@ -48,13 +40,6 @@ heard_none Trail kinds (Ack site args) fits = refl
 heard_none Trail kinds (End source) fits = refl
 heard_none Lead kinds _ fits = absurd fits
 heard_none Trail kinds _ fits = absurd fits
-
--- an activation has gone on to the next place, with registers that are as many and small
-pub record GoesOn (a next : Activation) : Type 0 where
-  pub function : next.function ≡ a.function
-  pub place : next.place ≡ a.place + 1
-  pub count : length next.registers ≡ length a.registers
-  pub each : All (λ v. v < 2 ^ 44) next.registers
 
 module _ (side : Side) (program : SharedProgram) (s : SideState) (sites : HasSites program) (fits : SideFits side program s) where
   -- its instruction is one of the version
@@ -83,70 +68,23 @@ module _ (side : Side) (program : SharedProgram) (s : SideState) (sites : HasSit
         heard = heard_none side after.code.kinds n.0.op after.fits;
       }
 
--- an instruction that goes on, one case for each
-pub goes_on : (program : SharedProgram) (kinds : List RegisterKind) (mid : Mid) (line : ℕ) (s : SideState) (next : Standing) → AreFit kinds mid → HoldsSmall s → wanted program mid line s ≡ Runs next → GoesOn s.at.machine.top next.machine.top
-goes_on program kinds (Const target value) line s next fit each h =
+-- a copied instruction that goes on
+goes_by : (program : SharedProgram) (s : SideState) (next : Standing) (d : Does) → GoesAlone s.at.machine.top d → wants_alone program d s.at ≡ Runs next → GoesOn s.at.machine.top next.machine.top
+goes_by program s next (Goes local) goes h =
+    let e : record s.at { machine = with_local program.program local s.at.machine } ≡ next = cc in
+    subst (λ (n : Standing). GoesOn s.at.machine.top n.machine.top) e goes
+goes_by program s next (Traps trap line) goes h = absurd (cc)
+goes_by program s next _ goes h = absurd goes
+
+pub goes_on : (program : SharedProgram) (kinds : List RegisterKind) (mid : Mid) (line : ℕ) (s : SideState) (next : Standing) → CopiedFits kinds mid → length s.at.machine.top.registers ≡ length kinds → HoldsSmall s →
+    wanted program mid line s ≡ Runs next → GoesOn s.at.machine.top next.machine.top
+goes_on program kinds mid line s next fit count each h =
     let l = local_of program.program s.at.machine in
-    let e : record s.at { machine = with_local program.program (record l { at = given target value l.at }) s.at.machine } ≡ next = cc in
-    subst (λ (n : Standing). GoesOn s.at.machine.top n.machine.top) e (record {
-      function = refl;
-      place = refl;
-      count = length-set s.at.machine.top.registers target value;
-      each = All-set (λ v. v < 2 ^ 44) s.at.machine.top.registers target value fit.1 each;
-    })
-goes_on program kinds (Conv from to target source) line s next fit each h =
-    let l = local_of program.program s.at.machine in
-    let value = convert_of from to (register s.at.machine.top source) in
-    let small : convert_of from to (register s.at.machine.top source) < 2 ^ 44 = omega (arith, convert_of-lt from to (register s.at.machine.top source)) in
-    let e : record s.at { machine = with_local program.program (record l { at = given target value l.at }) s.at.machine } ≡ next = cc in
-    subst (λ (n : Standing). GoesOn s.at.machine.top n.machine.top) e (record {
-      function = refl;
-      place = refl;
-      count = length-set s.at.machine.top.registers target value;
-      each = All-set (λ v. v < 2 ^ 44) s.at.machine.top.registers target value small each;
-    })
-goes_on program kinds (Put source) line s next fit each h = absurd (cc)
-goes_on program kinds (Exit source) line s next fit each h = absurd (cc)
-goes_on program kinds _ line s next fit each h = absurd fit
-
--- how many registers a function has
-abbrev pub register_count : Option MidFunction → ℕ
-register_count None = 0
-register_count (Some f) = length f.kinds
-
--- a side that stands where `main` begins, with these registers
-abbrev pub standing : ℕ → List ℕ → List ℕ → Limits → Own → SideState
-standing function registers heard limits own = record {
-  at = record {
-    machine = record {
-      top = record { function = function; place = 0; registers = registers; opened = []; into = 0 };
-      below = [];
-      budgets = record { protected = spent (full_budget limits); binary = full_budget limits };
-    };
-    own = own;
-  };
-  heard = heard;
-}
-
--- what a run owns at the start, as the code counts it
-pub own_is : (program : MidProgram) (limits : Limits) (fresh cells : ℕ) → fresh ≡ length program.main_statics + 1 → cells ≡ static_cells program.main_statics →
-    record { count = record { fresh = fresh; cells = cells; budget = limits.cells }; live = [] } ≡ started_own program limits
-own_is program limits fresh cells e f =
-    let first : fresh ≡ 1 + length program.main_statics = omega arith in
-    ap₂ (λ a b. record { count = record { fresh = a; cells = b; budget = limits.cells }; live = [] }) first f
+    goes_by program s next (act program.program mid line l) (fit.goes program.program line l count each) h
 
 -- a side at the start, by the code of `main`
 abbrev side_with_main : MidProgram → Limits → Option MidFunction → SideState
 side_with_main program limits f = record { at = record { machine = with_main program limits f; own = started_own program limits }; heard = [] }
-
-opening_by : (program : MidProgram) (limits : Limits) (f : Option MidFunction) → standing program.main (replicate (register_count f) 0) [] limits (started_own program limits) ≡ side_with_main program limits f
-opening_by program limits None = refl
-opening_by program limits (Some f) =
-    let e : length f.kinds ≡ length f.kinds - 0 = omega arith in
-    ap (λ n. standing program.main (replicate n 0) [] limits (started_own program limits)) e
-
-pub opening_is : (program : SharedProgram) (limits : Limits) → standing program.program.main (replicate (register_count (function_at program.program program.program.main)) 0) [] limits (started_own program.program limits) ≡ opening program limits
-opening_is program limits = opening_by program.program limits (function_at program.program program.program.main)
 
 -- `main` of a pair's program has a first instruction in both versions
 pub fits_opening : (side : Side) (program : SharedProgram) (limits : Limits) → HasSites program → SideFits side program (opening program limits)

@@ -1,9 +1,9 @@
 -- A side that has not ended fits after a step, and its world lives on.
 use Rattle.std.proofs.Common.{◌≡◌, ℕ, ◌<◌, Bool, true, false, List, [], ◌∷◌, ◌++◌, length, nat_lt, nat_eq, cond, Option, refl, sym, ap, ◌∙◌, subst, arith}
+use Rattle.std.specs.Prelude.{slice_index}
 use Rattle.std.proofs.lemmas.List.{length-map}
 use Rattle.std.proofs.lemmas.Bool.{ltb-true}
 use Rattle.srmt_base.specs.declared.request_kind.RequestKind.{RequestKind}
-use Rattle.srmt_base.specs.declared.request_kind.RequestKind.TheVariants.{Put as AsksPut, Exit as AsksExit}
 use Rattle.srmt_base.specs.declared.side.Side.{Side}
 use Rattle.srmt_base.specs.declared.side.Side.TheVariants.{Lead, Trail}
 use Rattle.srmt_base.specs.declared.word.Site.{Site}
@@ -17,16 +17,16 @@ use Rattle.mid_code.specs.Classes.{SharedProgram}
 use Rattle.mid_code.specs.Pairs.{HasSites}
 use Rattle.mid_code.specs.Versions.{operands_list}
 use Rattle.word_stream.specs.Exchange.{ack_words}
-use Rattle.world.specs.World.{WorldState}
+use Rattle.world.specs.World.{WorldState, ask}
 use Rattle.world.specs.Standing.{Standing}
 use Rattle.world.specs.Requests.{Wants, Runs, Dies, Requests, Lost}
 use Rattle.machine.specs.Side.{SideState, Meet, Plain, Got, Closed, Failed, Outcome, Went, Ended}
 use Rattle.machine.specs.Steps.{holds, operands, passed_on, performed, wanted}
-use Rattle.machine.specs.Leading.{compared, heard_by, awaits, act_request, acts_by, lead_op, lead_at, lead_next}
+use Rattle.machine.specs.Leading.{compared, heard_by, awaits, acts, act_request, acts_by, lead_op, lead_at, lead_next}
 use Rattle.machine.specs.Trailing.{checks, trail_op, trail_at, trail_next}
 use Rattle.machine.specs.Fits.{HeardFits, SideFits, HoldsSmall}
-use Rattle.machine.proofs.Groups.{IsServed, IsLast, OpFits}
-use Rattle.machine.proofs.Fitting.{GoesOn, goes_on, op_fits, fits_next}
+use Rattle.machine.proofs.FirstForm.{IsServed, Served, served, IsLast, OpFits, GoesOn}
+use Rattle.machine.proofs.Fitting.{goes_on, op_fits, fits_next}
 
 -- acknowledgements that all agree pass the instruction
 compared_by : (b : Bool) (next : Outcome) (s s' : SideState) (word mine : ℕ) → (next ≡ Went s' → passed_on s ≡ s') → cond b next (Ended (Echo word mine)) ≡ Went s' → passed_on s ≡ s'
@@ -45,6 +45,7 @@ record Keeps (Good : SideState → Type 0) (kinds : List RegisterKind) (op : Ver
   pub next : (next : Standing) → GoesOn s.at.machine.top next.machine.top → (IsLast op → ⊥) → Good (record { at = next; heard = [] })
   pub more : (heard : List ℕ) → HeardFits op heard → Good (record s { heard = heard })
   pub each : HoldsSmall s
+  pub count : length s.at.machine.top.registers ≡ length kinds
 
 module _ (Good : SideState → Type 0) (kinds : List RegisterKind) (s s' : SideState) where
   same_keeps : (op : VersionOp) → Keeps Good kinds op s → Went s ≡ Went s' → Good s'
@@ -57,7 +58,7 @@ module _ (Good : SideState → Type 0) (kinds : List RegisterKind) (s s' : SideS
   performed_keeps : (program : SharedProgram) (mid : Mid) (line : ℕ) (wants : Wants) → OpFits Lead kinds (Copied mid) → Keeps Good kinds (Copied mid) s → wanted program mid line s ≡ wants → performed wants s ≡ Went s' → Good s'
   performed_keeps program mid line (Runs next) fits keeps is h =
       let e : record { at = next; heard = [] } ≡ s' = cc in
-      subst Good e (keeps.next next (goes_on program kinds mid line s next fits.fit keeps.each is) (λ none. none))
+      subst Good e (keeps.next next (goes_on program kinds mid line s next fits keeps.count keeps.each is) (λ none. none))
   performed_keeps program mid line (Dies words trap at) fits keeps is h = absurd (cc)
   performed_keeps program mid line (Requests request) fits keeps is h = same_keeps (Copied mid) keeps h
   performed_keeps program mid line (Lost words) fits keeps is h = same_keeps (Copied mid) keeps h
@@ -75,17 +76,18 @@ module _ (Good : SideState → Type 0) (kinds : List RegisterKind) (s s' : SideS
   awaits_keeps site args own Plain keeps count h = same_keeps (Await site args) keeps h
   awaits_keeps site args own (Failed written) keeps count h = same_keeps (Await site args) keeps h
 
-  acts_keeps : (site : Site) (request : RequestKind) (target function : Option ℕ) (args : Operands) (values : List ℕ) (w : WorldState) (meet : Meet) → IsServed request → Keeps Good kinds (Act site request target function args) s →
-      (acts_by (act_request request site values) meet s w).outcome ≡ Went s' → Good s'
-  acts_keeps site AsksPut target function args values w (Failed written) served keeps h = absurd (cc)
-  acts_keeps site AsksPut target function args values w Plain served keeps h = let e : passed_on s ≡ s' = cc in passed_keeps (Act site AsksPut target function args) keeps (λ none. none) e
-  acts_keeps site AsksPut target function args values w (Got word) served keeps h = same_keeps (Act site AsksPut target function args) keeps h
-  acts_keeps site AsksPut target function args values w Closed served keeps h = same_keeps (Act site AsksPut target function args) keeps h
-  acts_keeps site AsksExit target function args values w (Failed written) served keeps h = absurd (cc)
-  acts_keeps site AsksExit target function args values w Plain served keeps h = absurd (cc)
-  acts_keeps site AsksExit target function args values w (Got word) served keeps h = same_keeps (Act site AsksExit target function args) keeps h
-  acts_keeps site AsksExit target function args values w Closed served keeps h = same_keeps (Act site AsksExit target function args) keeps h
-  acts_keeps site _ target function args values w meet served keeps h = absurd served
+  asked_keeps : (site : Site) (kind : RequestKind) (target function : Option ℕ) (args : Operands) (value : ℕ) (r : Served kind site value) (w : WorldState) (meet : Meet) → Keeps Good kinds (Act site kind target function args) s →
+      (acts meet r.request (ask w r.request) s w).outcome ≡ Went s' → Good s'
+  asked_keeps site kind target function args value r w (Failed written) keeps h = absurd (cc)
+  asked_keeps site kind target function args value r w Plain keeps h = let on = r.goes (ask w r.request).response s s' h in passed_keeps (Act site kind target function args) keeps on.not_last on.passed
+  asked_keeps site kind target function args value r w (Got word) keeps h = same_keeps (Act site kind target function args) keeps h
+  asked_keeps site kind target function args value r w Closed keeps h = same_keeps (Act site kind target function args) keeps h
+
+  acts_keeps : (site : Site) (kind : RequestKind) (target function : Option ℕ) (args : Operands) (values : List ℕ) (w : WorldState) (meet : Meet) → IsServed kind → Keeps Good kinds (Act site kind target function args) s →
+      (acts_by (act_request kind site values) meet s w).outcome ≡ Went s' → Good s'
+  acts_keeps site kind target function args values w meet is keeps h =
+      let r = served kind site (slice_index values 0) is in
+      asked_keeps site kind target function args (slice_index values 0) r w meet keeps (ap (λ q. (acts_by q meet s w).outcome) (sym r.is) ∙ h)
 
   lead_keeps : (program : SharedProgram) (op : VersionOp) (line : ℕ) (w : WorldState) (meet : Meet) → OpFits Lead kinds op → Keeps Good kinds op s → (lead_op program op line s w meet).outcome ≡ Went s' → Good s'
   lead_keeps program (Copied mid) line w meet fits keeps h = performed_keeps program mid line (wanted program mid line s) fits keeps refl h
@@ -119,6 +121,7 @@ module _ (program : SharedProgram) (s s' : SideState) (w : WorldState) (meet : M
     next = fits_next side program s sites fits;
     more = λ heard h. record { function = fits.function; line = fits.line; found = fits.found; at = fits.at; registers = fits.registers; each = fits.each; heard = h };
     each = fits.each;
+    count = fits.registers;
   }
 
   -- a step that goes on leaves a side that fits

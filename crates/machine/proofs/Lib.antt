@@ -1,5 +1,4 @@
 pub mod FirstForm
-pub mod Groups
 pub mod Placed
 pub mod Fitting
 pub mod Sending
@@ -7,3 +6,4 @@ pub mod Comparing
 pub mod Trying
 pub mod Keeping
 pub mod Standing
+pub mod Copying

@@ -25,8 +25,7 @@ use Rattle.mid_code.proofs.Values.{one_within}
 use Rattle.mid_code.proofs.VersionGroups.{get-with_line, length-lines_at, length-group_of, lines_at, place_in-next, place_in-few, length-groups_from, stands_in, some_size, IsProtected, classes_in, class_at, class_at-found, version_place, version_of-found, fetch}
 use Rattle.world.proofs.Plain.{protected_found, is_protected}
 use Rattle.machine.specs.Steps.{versions_of}
-use Rattle.machine.proofs.FirstForm.{line_fits}
-use Rattle.machine.proofs.Groups.{table_of, table_sized, IsLast, OpFits, each_at, group_fits}
+use Rattle.machine.proofs.FirstForm.{line_fits, table_of, table_sized, IsLast, OpFits, each_at, group_fits}
 
 pub versions_so : (side : Side) (program : SharedProgram) → versions_of side program ≡ table_versions (table_of side) program
 versions_so Lead program = refl

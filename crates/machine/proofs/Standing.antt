@@ -10,26 +10,26 @@ use Rattle.mid_code.specs.Versions.{operands_list}
 use Rattle.srmt_base.specs.declared.word.Site.{Site}
 use Rattle.mid_code.specs.declared.mid.Mid.{Mid}
 use Rattle.srmt_base.specs.declared.request_kind.RequestKind.{RequestKind}
-use Rattle.srmt_base.specs.declared.request_kind.RequestKind.TheVariants.{Put as AsksPut, Exit as AsksExit}
 use Rattle.mid_code.specs.declared.version.VersionOp.{VersionOp}
 use Rattle.mid_code.specs.declared.version.VersionOp.TheVariants.{Act}
 use Rattle.mid_code.specs.declared.version.VersionLine.{VersionLine}
+use Rattle.mid_code.specs.Machine.{local_of, act}
 use Rattle.mid_code.specs.Pairs.{HasSites}
-use Rattle.world.specs.World.{WorldState, Lives, Over, is_live, ask}
+use Rattle.mid_code.proofs.Naming.{whole}
+use Rattle.frames.specs.Acts.{IsReady}
+use Rattle.world.specs.World.{WorldState, Lives, Over, is_live, ask_living, ask}
 use Rattle.word_stream.specs.declared.request.Request.{Request}
-use Rattle.word_stream.specs.declared.request.Request.TheVariants.{Put, Exit}
 use Rattle.word_stream.specs.Reading.{request_of}
 use Rattle.machine.specs.declared.stepped.Stepped.{Stepped}
-use Rattle.machine.specs.declared.stepped.Stepped.TheVariants.{Went as Made, NotYet, Ended as MadeLast}
+use Rattle.machine.specs.declared.stepped.Stepped.TheVariants.{Made, NotYet, MadeLast}
 use Rattle.machine.specs.Side.{SideState, Meet, Plain, Got, Closed, Failed, Went}
 use Rattle.machine.specs.Steps.{side_op, takes, may_send, takes_at, may_send_at, holds, operands}
-use Rattle.machine.specs.Performed.{IsPerformed}
 use Rattle.machine.specs.Leading.{act_request, acts, acts_by, lead_op, lead_at, lead_next}
 use Rattle.machine.specs.Trailing.{trail_op, trail_at, trail_next}
 use Rattle.machine.specs.Link.{Shown}
 use Rattle.machine.specs.Tried.{Tries, TriesBy}
-use Rattle.machine.specs.Fits.{HeardFits, SideFits, IsNear, CanSpell, FitsAfter, LivesAfter}
-use Rattle.machine.proofs.Groups.{IsServed, CopiedFits, ArgsFit, OpFits}
+use Rattle.machine.specs.Fits.{HeardFits, SideFits, IsAlone, IsNear, CanSpell, FitsAfter, LivesAfter}
+use Rattle.machine.proofs.FirstForm.{CopiedFits, is_alone, IsServed, served, lives_on, ArgsFit, OpFits}
 use Rattle.machine.proofs.Fitting.{here, op_fits}
 use Rattle.machine.proofs.Keeping.{lead_fits, trail_fits}
 
@@ -56,8 +56,17 @@ module _ (side : Side) (program : SharedProgram) (s : SideState) (sites : HasSit
   pub source_within : (source : ℕ) → source < length fits.function.kinds → source < length s.at.machine.top.registers
   source_within source good = rw fits.registers good
 
-  pub copied_within : (mid : Mid) → CopiedFits fits.function.kinds mid → IsPerformed (length s.at.machine.top.registers) mid
-  copied_within mid good = rw fits.registers good.performed
+  pub copied_ready : (mid : Mid) → CopiedFits fits.function.kinds mid → IsReady program.program s.at.machine.top mid
+  copied_ready mid good = record {
+    place = omega (arith, near_here);
+    few = omega (arith, (whole program.program sites.valid).few_functions);
+    can = good.can program.program s.at.machine.top fits.registers;
+  }
+
+  pub copied_alone : (mid : Mid) (line : ℕ) → CopiedFits fits.function.kinds mid → IsAlone (act program.program mid line (local_of program.program s.at.machine))
+  copied_alone mid line good =
+      let l = local_of program.program s.at.machine in
+      is_alone s.at.machine.top (act program.program mid line l) (good.goes program.program line l fits.registers fits.each)
 
 module _ (program : SharedProgram) (s s' : SideState) (w w' : WorldState) (stepped : Stepped) (events : List Event) (before after : Shown) where
   -- the try of a step by its instruction
@@ -79,9 +88,8 @@ module _ (program : SharedProgram) (s s' : SideState) (w w' : WorldState) (stepp
 alive_request : (q : Request) (s s' : SideState) (w : WorldState) (meet : Meet) → IsTrue (is_live w) → (acts meet q (ask w q) s w).outcome ≡ Went s' → IsTrue (is_live (acts meet q (ask w q) s w).world)
 unfolding ask
 alive_request q s s' w (Failed written) live h = absurd (cc)
-alive_request (Put site value) s s' (Lives inside) Plain live h = live
-alive_request (Put site value) s s' Over Plain live h = absurd (cc)
-alive_request (Exit site value) s s' w Plain live h = absurd (cc)
+alive_request q s s' (Lives inside) Plain live h = lives_on q (ask_living inside q).response s s' inside h
+alive_request q s s' Over Plain live h = absurd (cc)
 alive_request q s s' w (Got word) live h = live
 alive_request q s s' w Closed live h = live
 
@@ -117,19 +125,16 @@ module _ (program : SharedProgram) (s s' : SideState) (w w' : WorldState) (event
   lead_lives_after NotYet live tries = subst (λ (v : WorldState). IsTrue (is_live v)) (sym tries.same_world) live
   lead_lives_after (MadeLast end) live tries = tt
 
--- the instruction that the code found: `v` is how it sees the side
-pub found_at : (side : Side) (program : SharedProgram) (s v : SideState) (l : VersionLine) (found : Option VersionLine) → v ≡ s → found ≡ side_op side program v → found ≡ Some l → side_op side program s ≡ Some l
-found_at side program s v l found is found_is some = ap (side_op side program) (sym is) ∙ sym found_is ∙ some
-
 -- a request that is served, of the first operand
 pub first_operand : (s : SideState) (args : List ℕ) → 1 ≤ length args → slice_index (operands s args) 0 ≡ holds s (get_or args 0 0)
 first_operand s [] some = absurd (omega arith)
 first_operand s (x ∷ xs) some = refl
 
-pub served_there : (request : RequestKind) (site : Site) (value : ℕ) → IsServed request → request_of request site value ≡ None → ⊥
-served_there AsksPut site value served h = cc
-served_there AsksExit site value served h = cc
-served_there _ site value served h = served
+pub served_there : (kind : RequestKind) (site : Site) (value : ℕ) → IsServed kind → request_of kind site value ≡ None → ⊥
+served_there kind site value is h =
+    let r = served kind site value is in
+    let clash : Some r.request ≡ None = sym r.is ∙ h in
+    cc
 
 -- the same try, by the request that the definition names
 pub same_request : (s s' : SideState) (w w' : WorldState) (stepped : Stepped) (events : List Event) (before after : Shown) (request : Request) (known : Option Request) → known ≡ Some request →

@@ -4,7 +4,7 @@ use Rattle.srmt_outside.specs.Count.{next_count}
 use Rattle.verdicts.specs.declared.thread_end.ThreadEnd.{ThreadEnd}
 use Rattle.verdicts.specs.declared.thread_end.ThreadEnd.TheVariants.{Exit, Trap, Mismatch, Echo, PeerEnded, WriteFault}
 use Rattle.machine.specs.declared.stepped.Stepped.{Stepped}
-use Rattle.machine.specs.declared.stepped.Stepped.TheVariants.{Went, NotYet, Ended}
+use Rattle.machine.specs.declared.stepped.Stepped.TheVariants.{Made, NotYet, MadeLast}
 
 -- the count of faults after a side has ended so: one more where an event failed, and else as it was
 abbrev pub faults_by : ThreadEnd → ℕ → ℕ
@@ -17,6 +17,6 @@ faults_by WriteFault faults = next_count faults
 
 -- and after the try of a step
 abbrev pub faults_after : Stepped → ℕ → ℕ
-faults_after Went faults = faults
+faults_after Made faults = faults
 faults_after NotYet faults = faults
-faults_after (Ended end) faults = faults_by end faults
+faults_after (MadeLast end) faults = faults_by end faults

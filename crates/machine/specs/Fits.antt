@@ -8,8 +8,9 @@ use Rattle.mid_code.specs.declared.version.VersionOp.{VersionOp}
 use Rattle.mid_code.specs.declared.version.VersionOp.TheVariants.{Copied, SharedLoad, SharedStore, SharedOpen, SharedClose, Ask, Await, Act, Enter, Callback, Check, CheckZero, CheckStored, Ack, Take, TakeDone, CheckOpen, CheckClose, End}
 use Rattle.mid_code.specs.declared.version.VersionLine.{VersionLine}
 use Rattle.mid_code.specs.Program.{function_at}
+use Rattle.mid_code.specs.Machine.{Does, Goes, Calls, Leaves, Traps, Reaches, Lost}
 use Rattle.machine.specs.declared.stepped.Stepped.{Stepped}
-use Rattle.machine.specs.declared.stepped.Stepped.TheVariants.{Went, NotYet, Ended}
+use Rattle.machine.specs.declared.stepped.Stepped.TheVariants.{Made, NotYet, MadeLast}
 use Rattle.world.specs.World.{WorldState, is_live}
 use Rattle.machine.specs.Side.{SideState}
 use Rattle.machine.specs.Steps.{side_op}
@@ -50,6 +51,15 @@ pub record CanSpell (s : SideState) (args : List ℕ) : Type 0 where
   pub registers : AreRegisters s args
   pub small : HoldsSmall s
 
+-- what needs the activation and the budget of its part alone: it goes on, or stops the run
+abbrev pub IsAlone : Does → Type 0
+IsAlone (Goes local) = Unit {0}
+IsAlone (Calls function args target) = ⊥
+IsAlone (Leaves value) = ⊥
+IsAlone (Traps trap line) = Unit {0}
+IsAlone (Reaches access line) = ⊥
+IsAlone Lost = ⊥
+
 -- no version is so long
 abbrev pub IsNear : SideState → Type 0
 IsNear s = s.at.machine.top.place < 2 ^ 21
@@ -67,12 +77,12 @@ pub record SideFits (side : Side) (program : SharedProgram) (s : SideState) : Ty
 
 -- a side that has not ended fits after a step
 abbrev pub FitsAfter : Stepped → Side → SharedProgram → SideState → Type 0
-FitsAfter Went side program s = SideFits side program s
+FitsAfter Made side program s = SideFits side program s
 FitsAfter NotYet side program s = SideFits side program s
-FitsAfter (Ended end) side program s = Unit {0}
+FitsAfter (MadeLast end) side program s = Unit {0}
 
 -- and its world answers on
 abbrev pub LivesAfter : Stepped → WorldState → Type 0
-LivesAfter Went w = IsTrue (is_live w)
+LivesAfter Made w = IsTrue (is_live w)
 LivesAfter NotYet w = IsTrue (is_live w)
-LivesAfter (Ended end) w = Unit {0}
+LivesAfter (MadeLast end) w = Unit {0}

@@ -4,7 +4,6 @@ pub mod OneStep
 pub mod Side
 pub mod Upset
 pub mod Steps
-pub mod Performed
 pub mod Leading
 pub mod Trailing
 pub mod Meets
@@ -12,3 +11,4 @@ pub mod Tried
 pub mod Faults
 pub mod Fits
 pub mod View
+pub mod Quiet

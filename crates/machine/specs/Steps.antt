@@ -1,25 +1,19 @@
 -- What the steps of both sides share.
 use Rattle.std.specs.Prelude.{ℕ, Bool, true, false, List, [], Option, Some, None, map}
 use Rattle.srmt_base.specs.declared.side.Side.{Side}
-use Rattle.srmt_base.specs.declared.side.Side.TheVariants.{Lead, Trail}
 use Rattle.verdicts.specs.declared.thread_end.ThreadEnd.TheVariants.{Trap}
 use Rattle.mid_code.specs.declared.mid.Mid.{Mid}
 use Rattle.mid_code.specs.declared.version.VersionOp.{VersionOp}
 use Rattle.mid_code.specs.declared.version.VersionOp.TheVariants.{Copied, SharedLoad, SharedStore, SharedOpen, SharedClose, Ask, Await, Act, Enter, Callback, Check, CheckZero, CheckStored, Ack, Take, TakeDone, CheckOpen, CheckClose, End}
 use Rattle.mid_code.specs.declared.version.VersionLine.{VersionLine}
-use Rattle.mid_code.specs.declared.version.Version.{Version}
 use Rattle.mid_code.specs.Classes.{SharedProgram}
 use Rattle.mid_code.specs.Machine.{register, local_of, act}
-use Rattle.mid_code.specs.Versions.{leading_versions, trailing_versions, version_at}
+use Rattle.mid_code.specs.Versions.{version_at}
+pub use Rattle.frames.specs.Copied.{versions_of}
 use Rattle.world.specs.World.{WorldState}
 use Rattle.world.specs.Standing.{passed_on as passes}
 use Rattle.world.specs.Requests.{Wants, Runs, Dies, Requests, Lost, wants_alone}
 use Rattle.machine.specs.Side.{SideState, Outcome, Went, Ended, StepGives}
-
--- the versions that a side runs
-abbrev pub versions_of : Side → SharedProgram → List Version
-versions_of Lead program = leading_versions program
-versions_of Trail program = trailing_versions program
 
 -- the instruction at which a side stands
 abbrev pub side_op : Side → SharedProgram → SideState → Option VersionLine

@@ -9,7 +9,7 @@ use Rattle.machine.specs.declared.link_call.Taken.TheVariants.{Word, NotYet as N
 use Rattle.machine.specs.declared.link_call.LastCall.{LastCall}
 use Rattle.machine.specs.declared.link_call.LastCall.TheVariants.{Room, Take}
 use Rattle.machine.specs.declared.stepped.Stepped.{Stepped}
-use Rattle.machine.specs.declared.stepped.Stepped.TheVariants.{Went as Made, NotYet, Ended as MadeLast}
+use Rattle.machine.specs.declared.stepped.Stepped.TheVariants.{Made, NotYet, MadeLast}
 use Rattle.machine.specs.Link.{Shown, kept, dropped_more, taken_by_call}
 use Rattle.machine.specs.Side.{SideState, Meet, Plain, Got, Closed, Failed, Outcome, Went, Ended, StepGives}
 use Rattle.machine.specs.Steps.{side_op, takes_at, may_send_at, step_room}

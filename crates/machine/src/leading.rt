@@ -17,9 +17,9 @@ use crate::link::Link;
 use crate::link_call::Taken;
 use crate::machine::Machine;
 use crate::stepped::Stepped;
-use crate::steps::{STEP_ROOM, perform, send_operands};
+use crate::steps::{STEP_ROOM, perform_copied, send_operands};
 use mid_code::{Operands, Pair, VersionOp};
-use srmt_base::{Kind, Site, Word, pack};
+use srmt_base::{Kind, Side, Site, Word, pack};
 use srmt_outside::Outlet;
 use verdicts::ThreadEnd;
 use word_stream::{Request, Response, request_of};
@@ -54,13 +54,13 @@ fn hear(m: &mut Machine, site: Site, args: &Operands, word: Word) -> Stepped
 {
     m.heard.push(word);
     if m.heard.as_slice().len() < args.len() {
-        return Stepped::Went;
+        return Stepped::Made;
     }
     if let Some(end) = first_difference(m, site, args, m.heard.as_slice()) {
-        return Stepped::Ended(end);
+        return Stepped::MadeLast(end);
     }
     m.pass();
-    Stepped::Went
+    Stepped::Made
 }
 
 // Takes the next acknowledgement, if one is there.
@@ -75,7 +75,7 @@ fn await_acks<L: Link>(m: &mut Machine, site: Site, args: &Operands, link: &mut 
 {
     match link.take() {
         Taken::NotYet => Stepped::NotYet,
-        Taken::Closed => Stepped::Ended(ThreadEnd::PeerEnded),
+        Taken::Closed => Stepped::MadeLast(ThreadEnd::PeerEnded),
         Taken::Word(word) => {
             // The name is for the proof, which cites what the call answers.
             let stepped = hear(m, site, args, word);
@@ -88,14 +88,14 @@ fn await_acks<L: Link>(m: &mut Machine, site: Site, args: &Operands, link: &mut 
 fn resume(m: &mut Machine, request: Request, _response: Response) -> Stepped
     requires { IsNear m.old }
     ensures comes { Comes result m.new (answered request _response m.old) }
-    ensures no_fault { result ≢ Stepped.Ended ThreadEnd.WriteFault }
+    ensures no_fault { result ≢ Stepped.MadeLast ThreadEnd.WriteFault }
 {
     match request {
         Request::Put { .. } => {
             m.pass();
-            Stepped::Went
+            Stepped::Made
         }
-        Request::Exit { value, .. } => Stepped::Ended(ThreadEnd::Exit((value % 256) as u8)),
+        Request::Exit { value, .. } => Stepped::MadeLast(ThreadEnd::Exit((value % 256) as u8)),
     }
 }
 
@@ -122,7 +122,7 @@ fn act_on<O: Outlet, L: Link>(
         return Stepped::NotYet;
     }
     match w.ask(pair, &request, outlet) {
-        Err(_) => Stepped::Ended(ThreadEnd::WriteFault),
+        Err(_) => Stepped::MadeLast(ThreadEnd::WriteFault),
         Ok(response) => {
             let stepped = resume(m, request, response);
             stepped
@@ -155,12 +155,12 @@ pub fn lead_step<O: Outlet, L: Link>(
 {
     // The call is for the proof: a pair is one of a program of the first form.
     let _pair = pair.classed();
-    let Some(line) = pair.leading_at(m.function, m.place) else {
+    let Some(line) = m.next_line(pair, Side::Lead) else {
         unreachable!()
     };
     match &line.op {
         VersionOp::Copied(mid) => {
-            let stepped = perform(m, *mid, line.line);
+            let stepped = perform_copied(pair, m, *mid, line.line);
             stepped
         }
         VersionOp::Ask { site, operands } => {

@@ -1,29 +1,30 @@
 ghost use Rattle.std.specs.Prelude.{◌≡◌, ◌+◌, ◌<◌, ◌≤◌, ◌^◌, length, get_or, IfOk};
+ghost use Rattle.std.specs.Option.{option_copied};
 ghost use Rattle.mid_code.specs.Start.{FitLimits};
 ghost use Rattle.machine.specs.Side.{opening};
 ghost use Rattle.srmt_base.specs.Statics.{static_cells};
 ghost use Rattle.mid_code.specs.Versions.{operands_list};
-ghost use Rattle.machine.specs.Steps.{holds, passed_on};
+ghost use Rattle.machine.specs.Steps.{holds, passed_on, side_op};
 ghost use Rattle.machine.specs.Fits.{AreRegisters, SideFits};
 
 use crate::heard::Heard;
-use mid_code::{Operands, Pair};
-use srmt_base::{Limits, Side, Static};
+use frames::{Frames, Room};
+use mid_code::{Operands, Pair, VersionLine};
+use srmt_base::{Budget, Budgets, Limits, Side, Static};
 use std::alloc::{AllocError, Global};
 use std::marker::Model;
 
-/// Where one side of a pair stands in its version, and what its registers hold.
+/// One side of a pair: its live activations, at places of its version, and the acknowledgements that
+/// it has taken so far where it awaits them.
 #[derive(Debug, Drop)]
 pub struct Machine {
-    pub(crate) function: u16,
-    pub(crate) place: usize,
-    pub(crate) registers: Vec<u64>,
+    pub(crate) frames: Frames,
     pub(crate) heard: Heard,
-    // What the run was started with, of which the entry of `main` alone has spent.
-    pub(crate) limits: Limits,
-    // The number of the next object, and how many cells live: no instruction begins an object yet.
+    // The number of the next object, how many cells live, and how many may: no instruction of a pair
+    // begins an object yet.
     fresh: u64,
     cells: u64,
+    budget: u32,
 }
 
 impl Model for Machine {
@@ -37,8 +38,8 @@ impl Model for Machine {
 }
 
 impl Machine {
-    /// Enters `main` in the version of a side. Nothing after it takes memory. No instruction spends
-    /// more of the limits than the entry of `main`, for which they have room.
+    /// Enters `main` in the version of a side. Nothing after it takes memory: it takes 8,224 bytes for
+    /// each activation that the limits allow in both parts, and 8 for each cell.
     pub fn start(
         alloc: Global,
         pair: &Pair,
@@ -50,16 +51,44 @@ impl Machine {
         ensures fits { IfOk result (SideFits _side pair.now) }
     {
         let program = pair.classed().program();
-        let count = program.function(program.main).map_or(0, |f| f.kinds.len());
+        let Some(main) = program.function(program.main) else {
+            unreachable!()
+        };
+        let budgets = Budgets {
+            protected: Budget {
+                turns: limits.turns - 1,
+                depth: limits.depth - 1,
+            },
+            binary: Budget {
+                turns: limits.turns,
+                depth: limits.depth,
+            },
+        };
+        let room = Room {
+            activations: 2 * limits.depth,
+            objects: limits.cells,
+        };
+        let count = main.kinds.len() as u16;
+        let frames = Frames::start(alloc, program.main, count, budgets, room)?;
         Ok(Machine {
-            function: program.main,
-            place: 0,
-            registers: vec![in alloc; 0; count]?,
+            frames,
             heard: Heard::new(),
-            limits,
             fresh: program.main_statics.len() as u64 + 1,
             cells: cells_of(program.main_statics.as_slice()),
+            budget: limits.cells,
         })
+    }
+
+    /// The instruction of a side's version at which it stands.
+    pub(crate) fn next_line<'a>(&self, pair: &'a Pair, side: Side) -> Option<&'a VersionLine>
+        ensures { option_copied result ≡ side_op side pair.now self.now }
+    {
+        let function = self.frames.function();
+        let place = self.frames.place() as usize;
+        match side {
+            Side::Lead => pair.leading_at(function, place),
+            Side::Trail => pair.trailing_at(function, place),
+        }
     }
 
     /// What a register holds.
@@ -67,7 +96,7 @@ impl Machine {
         requires { number < length self.now.at.machine.top.registers }
         ensures { result ≡ holds self.now number }
     {
-        self.registers[usize::from(number)]
+        self.frames.read(number)
     }
 
     /// What the register of an operand holds.
@@ -84,10 +113,10 @@ impl Machine {
 
     /// Passes its instruction.
     pub(crate) fn pass(&mut self)
-        requires { self.old.at.machine.top.place + 1 < 2 ^ 64 }
+        requires { self.old.at.machine.top.place + 1 < 2 ^ 32 }
         ensures { self.new ≡ passed_on self.old }
     {
-        self.place += 1;
+        self.frames.pass();
         self.heard.clear();
     }
 }

@@ -4,9 +4,9 @@ use verdicts::ThreadEnd;
 #[derive(Clone, Copy, Debug, PartialEq, Eq)]
 pub enum Stepped {
     /// The step was made.
-    Went,
+    Made,
     /// No word is there yet, or there is too little room: nothing has changed.
     NotYet,
     /// The step was made, and the side has ended with it.
-    Ended(ThreadEnd),
+    MadeLast(ThreadEnd),
 }

@@ -1,79 +1,42 @@
-ghost use Rattle.std.specs.Prelude.{◌≡◌, ◌^◌, ◌<◌, true, false, [], length, map};
+ghost use Rattle.std.specs.Prelude.{◌≡◌, ℕ, ◌^◌, ◌<◌, true, false, [], length, map};
 ghost use Rattle.srmt_base.specs.Word.{word_of};
-ghost use Rattle.mid_code.specs.Classes.{SharedProgram};
-ghost use Rattle.mid_code.specs.Machine.{given};
+ghost use Rattle.mid_code.specs.Machine.{local_of, act};
 ghost use Rattle.mid_code.specs.Versions.{operands_list};
 ghost use Rattle.world.specs.World.{WorldState};
-ghost use Rattle.world.specs.Standing.{standing_at};
+ghost use Rattle.frames.specs.Acts.{IsReady};
+ghost use Rattle.machine.specs.Faults.{faults_after};
 ghost use Rattle.machine.specs.Steps.{operands, wanted, performed, sends};
-ghost use Rattle.machine.specs.Fits.{CanSpell, IsNear};
-ghost use Rattle.machine.specs.Performed.{IsPerformed};
+ghost use Rattle.machine.specs.Fits.{CanSpell, IsNear, IsAlone};
 ghost use Rattle.machine.specs.Link.{HasRoom, SentBelow, IsSent, IsLater};
 ghost use Rattle.machine.specs.Tried.{Comes, TriesBy};
 
 use crate::link::Link;
 use crate::machine::Machine;
 use crate::stepped::Stepped;
-use mid_code::{Mid, Operands};
-use srmt_base::{Kind, Site, convert, pack};
+use frames::{Did, perform};
+use mid_code::{Mid, MidLine, Operands, Pair};
+use srmt_base::{Kind, Site, pack};
+use verdicts::ThreadEnd;
 
 /// For how many words a step that may send wants room.
 pub(crate) const STEP_ROOM: u8 = 18;
 
-// Passes its instruction, with a value in the target register.
-fn set(m: &mut Machine, target: u16, value: u64)
-    requires register { target < length m.old.at.machine.top.registers }
-    requires near { IsNear m.old }
-    ensures { m.new ≡ record { at = standing_at (given target value m.old.at.machine.top) m.old.at; heard = [] } }
+/// Performs an instruction that both sides perform, at a line of the source.
+pub(crate) fn perform_copied(pair: &Pair, m: &mut Machine, mid: Mid, line: u32) -> Stepped
+    requires ready { IsReady pair.now.program m.old.at.machine.top mid }
+    requires alone { IsAlone (act pair.now.program mid line (local_of pair.now.program m.old.at.machine)) }
+    ensures comes { Comes result m.new (performed (wanted pair.now mid line m.old) m.old) }
+    ensures no_fault { (faults : ℕ) → faults_after result faults ≡ faults }
 {
-    m.registers[usize::from(target)] = value;
-    m.pass();
-}
-
-/// Performs an instruction that both sides perform. None of them stops the run.
-pub(crate) fn perform(m: &mut Machine, mid: Mid, _line: u32) -> Stepped
-    requires performed { IsPerformed (length m.old.at.machine.top.registers) mid }
-    requires near { IsNear m.old }
-    ensures went { result ≡ Stepped.Went }
-    ensures comes { (program : SharedProgram)
-        → Comes result m.new (performed (wanted program mid _line m.old) m.old) }
-{
-    match mid {
-        Mid::Const { target, value } => set(m, target, value),
-        Mid::Conv {
-            from,
-            to,
-            target,
-            source,
-        } => {
-            let value = convert(from, to, m.register(source));
-            set(m, target, value);
+    let program = pair.classed().program();
+    match perform(&mut m.frames, program, &MidLine { line, mid }) {
+        Did::Went => {
+            m.heard.clear();
+            Stepped::Made
         }
-        Mid::Move { .. }
-        | Mid::Arith { .. }
-        | Mid::PtrAdd { .. }
-        | Mid::PtrDiff { .. }
-        | Mid::PtrCmp { .. }
-        | Mid::GlobAddr { .. }
-        | Mid::FunAddr { .. }
-        | Mid::Load { .. }
-        | Mid::Store { .. }
-        | Mid::VLoad { .. }
-        | Mid::VStore { .. }
-        | Mid::Open { .. }
-        | Mid::Close { .. }
-        | Mid::Jump { .. }
-        | Mid::JumpZ { .. }
-        | Mid::JumpN { .. }
-        | Mid::Turn
-        | Mid::Call { .. }
-        | Mid::CallPtr { .. }
-        | Mid::Return { .. }
-        | Mid::Put { .. }
-        | Mid::Get { .. }
-        | Mid::Exit { .. } => unreachable!(),
+        Did::Trapped(trap, line) => Stepped::MadeLast(ThreadEnd::Trap(trap, line)),
+        Did::Called { .. } | Did::Left(_) | Did::Wants(_) => unreachable!(),
     }
-    Stepped::Went
 }
 
 // Sends a word of this kind for each operand, for which there is room.
@@ -111,5 +74,5 @@ pub(crate) fn send_operands<L: Link>(
     }
     send_each(m, kind, site, args, link);
     m.pass();
-    Stepped::Went
+    Stepped::Made
 }

@@ -14,9 +14,9 @@ use crate::link::Link;
 use crate::link_call::Taken;
 use crate::machine::Machine;
 use crate::stepped::Stepped;
-use crate::steps::{perform, send_operands};
+use crate::steps::{perform_copied, send_operands};
 use mid_code::{Pair, VersionOp};
-use srmt_base::{Kind, Site, Word, pack};
+use srmt_base::{Kind, Side, Site, Word, pack};
 use verdicts::ThreadEnd;
 
 // Compares a word with the side's own.
@@ -25,10 +25,10 @@ fn compare(m: &mut Machine, own: Word, word: Word) -> Stepped
     ensures { Comes result m.new (checks (Got word) own m.old) }
 {
     if word != own {
-        return Stepped::Ended(ThreadEnd::Mismatch(word, own));
+        return Stepped::MadeLast(ThreadEnd::Mismatch(word, own));
     }
     m.pass();
-    Stepped::Went
+    Stepped::Made
 }
 
 // Takes the next word, if one is there, and compares it with the side's own.
@@ -44,7 +44,7 @@ fn check_word<L: Link>(m: &mut Machine, site: Site, source: u16, link: &mut L) -
     let own = pack(Kind::Check, site, m.register(source));
     match link.take() {
         Taken::NotYet => Stepped::NotYet,
-        Taken::Closed => Stepped::Ended(ThreadEnd::PeerEnded),
+        Taken::Closed => Stepped::MadeLast(ThreadEnd::PeerEnded),
         Taken::Word(word) => {
             // The name is for the proof, which cites what the call answers.
             let stepped = compare(m, own, word);
@@ -68,12 +68,12 @@ pub fn trail_step<L: Link>(pair: &Pair, m: &mut Machine, link: &mut L) -> Steppe
 {
     // The call is for the proof: a pair is one of a program of the first form.
     let _pair = pair.classed();
-    let Some(line) = pair.trailing_at(m.function, m.place) else {
+    let Some(line) = m.next_line(pair, Side::Trail) else {
         unreachable!()
     };
     match &line.op {
         VersionOp::Copied(mid) => {
-            let stepped = perform(m, *mid, line.line);
+            let stepped = perform_copied(pair, m, *mid, line.line);
             stepped
         }
         VersionOp::Check { site, source } => {
@@ -85,7 +85,7 @@ pub fn trail_step<L: Link>(pair: &Pair, m: &mut Machine, link: &mut L) -> Steppe
             stepped
         }
         VersionOp::End { source } => {
-            Stepped::Ended(ThreadEnd::Exit((m.register(*source) % 256) as u8))
+            Stepped::MadeLast(ThreadEnd::Exit((m.register(*source) % 256) as u8))
         }
         VersionOp::SharedLoad { .. }
         | VersionOp::SharedStore { .. }

@@ -10,7 +10,7 @@ use Rattle.machine.specs.declared.link_call.LastCall.TheVariants.{Nothing}
 use Rattle.machine.specs.declared.one_step.OneStep.{OneStep}
 use Rattle.verdicts.specs.declared.thread_end.ThreadEnd.{ThreadEnd}
 use Rattle.machine.specs.declared.stepped.Stepped.{Stepped}
-use Rattle.machine.specs.declared.stepped.Stepped.TheVariants.{Went as Made, NotYet, Ended as MadeLast}
+use Rattle.machine.specs.declared.stepped.Stepped.TheVariants.{Made, NotYet, MadeLast}
 use Rattle.machine.specs.Origin.{Given}
 use Rattle.machine.specs.OneStep.{made_of, sent_of, asks_of, last_of, shown_of, unasked}
 use Rattle.machine.specs.Side.{SideState, Outcome, Went, Ended}

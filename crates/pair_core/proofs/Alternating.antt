@@ -7,7 +7,7 @@ use Rattle.srmt_base.specs.declared.side.Side.TheVariants.{Lead, Trail}
 use Rattle.mid_code.specs.Classes.{SharedProgram}
 use Rattle.mid_code.specs.Pairs.{HasSites}
 use Rattle.machine.specs.declared.stepped.Stepped.{Stepped}
-use Rattle.machine.specs.declared.stepped.Stepped.TheVariants.{Went as Made, NotYet, Ended as MadeLast}
+use Rattle.machine.specs.declared.stepped.Stepped.TheVariants.{Made, NotYet, MadeLast}
 use Rattle.machine.specs.Side.{SideState, Outcome, Went, Ended}
 use Rattle.machine.proofs.Fitting.{fits_opening}
 use Rattle.machine.specs.Upset.{no_upsets}
@@ -62,6 +62,9 @@ idle_most : (o : Outcome) (stepped : Stepped) → idle_at o stepped ≤ 1
 idle_most (Went s) stepped = idle_few stepped
 idle_most (Ended end) stepped = omega arith
 
+pub idle_few_at : (program : SharedProgram) (side : Side) (duo : DuoState) → idle program side duo ≤ 1
+idle_few_at program side duo = idle_most (view_of side duo).at (turn_of program no_upsets side None duo).stepped
+
 module _ (program : SharedProgram) (input : List ℕ) (limits : Limits) (duo : DuoState) (events : List Event) (sites : HasSites program) (reached : Reached program input limits no_upsets duo events) (going : BothOver duo → ⊥) where
   -- where one side cannot go the other can
   other_goes : (side : Side) → (CanGo program no_upsets side duo → ⊥) → CanGo program no_upsets (other_side side) duo
@@ -95,7 +98,7 @@ module _ (program : SharedProgram) (input : List ℕ) (limits : Limits) (duo : D
     -- the side made a step
     went_on : (s : SideState) → (view_of side duo).at ≡ Went s → turned.stepped ≢ NotYet → turns_left program (next_turn turned.stepped side) turned.state < turns_left program side duo
     went_on s at goes =
-        less_left _ _ _ _ (reached_lowers program input limits duo events sites reached side fails s at goes) (idle_most (view_of (next_turn turned.stepped side) turned.state).at (turn_of program no_upsets (next_turn turned.stepped side) None turned.state).stepped)
+        less_left _ _ _ _ (reached_lowers program input limits duo events sites reached side fails s at goes) (idle_few_at program (next_turn turned.stepped side) turned.state)
       where
         less_left : (n l a b : ℕ) → n < l → a ≤ 1 → 2 * n + a < 2 * l + b
         less_left n l a b less few = omega arith

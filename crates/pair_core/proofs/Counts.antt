@@ -6,7 +6,7 @@ use Rattle.verdicts.specs.declared.thread_end.ThreadEnd.{ThreadEnd}
 use Rattle.verdicts.specs.declared.thread_end.ThreadEnd.TheVariants.{Exit, Trap, Mismatch, Echo, PeerEnded, WriteFault}
 use Rattle.verdicts.specs.Verdict.{verdict_of_ends, exit_verdict, stopped_by, trap_verdict}
 use Rattle.machine.specs.declared.stepped.Stepped.{Stepped}
-use Rattle.machine.specs.declared.stepped.Stepped.TheVariants.{Went as Made, NotYet, Ended as MadeLast}
+use Rattle.machine.specs.declared.stepped.Stepped.TheVariants.{Made, NotYet, MadeLast}
 use Rattle.machine.specs.Faults.{faults_after}
 use Rattle.machine.specs.Side.{SideState, Outcome, Went}
 use Rattle.pair_core.specs.Turns.{outcome_by, end_of_step}
@@ -19,6 +19,10 @@ same_count at faults = record { count = stays (has_failed at); stays = λ h. h }
     stays : (b : Bool) → faults ≡ faults_turned b b faults
     stays true = refl
     stays false = refl
+
+-- and steps behind it that end no side count nothing more
+pub counts_as : (before middle after : Outcome) (faults now : ℕ) → CountsFaults before middle faults now → has_failed after ≡ has_failed middle → CountsFaults before after faults now
+counts_as before middle after faults now c same = record { count = c.count ∙ ap (λ b. faults_turned (has_failed before) b faults) (sym same); stays = λ h. same ∙ c.stays h }
 
 by_step : (stepped : Stepped) (m : SideState) (faults : ℕ) → faults_after stepped faults ≡ faults_turned false (has_failed (outcome_by (end_of_step stepped) m)) faults
 by_step Made m faults = refl

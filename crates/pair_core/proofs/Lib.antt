@@ -21,3 +21,4 @@ pub mod Faults
 pub mod Counts
 pub mod Counting
 pub mod Alternating
+pub mod MoreTurns

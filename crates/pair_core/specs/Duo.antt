@@ -7,7 +7,7 @@ use Rattle.srmt_base.specs.declared.side.Side.TheVariants.{Lead, Trail}
 use Rattle.mid_code.specs.Classes.{SharedProgram}
 use Rattle.world.specs.World.{WorldState, opened}
 use Rattle.machine.specs.declared.stepped.Stepped.{Stepped}
-use Rattle.machine.specs.declared.stepped.Stepped.TheVariants.{Went as Made, NotYet, Ended as MadeLast}
+use Rattle.machine.specs.declared.stepped.Stepped.TheVariants.{Made, NotYet, MadeLast}
 use Rattle.machine.specs.Side.{SideState, Meet, Plain, Got, Closed, Failed, Outcome, Went, Ended, StepGives, opening}
 use Rattle.machine.specs.Steps.{side_op, takes_at, may_send_at, step_room}
 use Rattle.machine.specs.Meets.{next_of}

@@ -6,7 +6,7 @@ use Rattle.srmt_base.specs.declared.side.Side.TheVariants.{Lead, Trail}
 use Rattle.mid_code.specs.Classes.{SharedProgram}
 use Rattle.verdicts.specs.declared.thread_end.ThreadEnd.{ThreadEnd}
 use Rattle.machine.specs.declared.stepped.Stepped.{Stepped}
-use Rattle.machine.specs.declared.stepped.Stepped.TheVariants.{Went, NotYet, Ended as MadeLast}
+use Rattle.machine.specs.declared.stepped.Stepped.TheVariants.{Made, NotYet, MadeLast}
 use Rattle.machine.specs.Side.{Ended}
 use Rattle.verdicts.specs.declared.verdict.Ran.{Ran}
 use Rattle.pair_core.specs.Fit.{IsOver}
@@ -19,7 +19,7 @@ other_side Trail = Lead
 
 -- a side goes on until it waits or has ended
 abbrev pub next_turn : Stepped → Side → Side
-next_turn Went side = side
+next_turn Made side = side
 next_turn NotYet side = other_side side
 next_turn (MadeLast end) side = other_side side
 

@@ -1,5 +1,5 @@
 -- One event of the core as the code makes it: what a side is offered, and what it leaves on the way.
-use Rattle.std.specs.Prelude.{◌≡◌, ℕ, ◌+◌, ◌-◌, ◌^◌, ◌<◌, ◌≤◌, Bool, true, false, List, [], ◌∷◌, Option, Some, None, drop, min, length, IsTrue}
+use Rattle.std.specs.Prelude.{◌≡◌, ℕ, zero, suc, ◌+◌, ◌-◌, ◌^◌, ◌<◌, ◌≤◌, Bool, true, false, List, [], ◌∷◌, Option, Some, None, drop, min, length, IsTrue}
 use Rattle.srmt_base.specs.declared.event.Event.{Event}
 use Rattle.srmt_base.specs.declared.side.Side.{Side}
 use Rattle.srmt_base.specs.declared.side.Side.TheVariants.{Lead, Trail}
@@ -11,7 +11,7 @@ use Rattle.machine.specs.declared.link_call.LastCall.{LastCall}
 use Rattle.machine.specs.declared.link_call.LastCall.TheVariants.{Nothing, Room, Take}
 use Rattle.verdicts.specs.declared.thread_end.ThreadEnd.{ThreadEnd}
 use Rattle.machine.specs.declared.stepped.Stepped.{Stepped}
-use Rattle.machine.specs.declared.stepped.Stepped.TheVariants.{Went as Made, NotYet, Ended as MadeLast}
+use Rattle.machine.specs.declared.stepped.Stepped.TheVariants.{Made, NotYet, MadeLast}
 use Rattle.machine.specs.Side.{SideState, Outcome, Went, Ended}
 use Rattle.machine.specs.Fits.{SideFits}
 use Rattle.machine.specs.Upset.{Upsets}
@@ -55,6 +55,20 @@ has_waited (MadeLast end) = false
 abbrev pub Turns : SharedProgram → Upsets → Side → Option ℕ → DuoState → DuoState → Stepped → List Event → Type 0
 Turns program upsets side fails before after stepped events =
     turn_of program upsets side fails before ≡ record { state = after; events = events; stepped = stepped }
+
+-- so many more steps of a side, each of which it makes, and none of which writes an event
+abbrev pub MoreTurns : SharedProgram → Upsets → Side → ℕ → DuoState → DuoState → Type 0
+MoreTurns program upsets side zero before after = after ≡ before
+MoreTurns program upsets side (suc n) before after =
+    (middle : DuoState) × MoreTurns program upsets side n before middle × Turns program upsets side None middle after Made []
+
+-- one event of a side, and some more steps of it behind that
+pub record TurnsOn (program : SharedProgram) (upsets : Upsets) (side : Side) (before after : DuoState) (stepped : Stepped) (events : List Event) : Type 0 where
+  pub fails : Option ℕ
+  pub first : DuoState
+  pub turns : Turns program upsets side fails before first stepped events
+  pub count : ℕ
+  pub more : MoreTurns program upsets side count first after
 
 -- a side that has not ended stands within its version, and while the leading side goes on the world
 -- answers

@@ -1,4 +1,4 @@
-ghost use Rattle.std.specs.Prelude.{◌≡◌, ℕ, ◌+◌, ◌≤◌, ◌⊎◌, true, [], List, Option, length, IfOk};
+ghost use Rattle.std.specs.Prelude.{◌≡◌, ℕ, ◌+◌, ◌^◌, ◌≤◌, ◌⊎◌, true, [], List, Option, length, IfOk};
 ghost use Rattle.srmt_base.specs.declared.event.Event.{Event};
 ghost use Rattle.srmt_base.specs.declared.side.Side.TheVariants.{Lead, Trail};
 ghost use Rattle.mid_code.specs.Start.{FitLimits};
@@ -6,11 +6,13 @@ ghost use Rattle.srmt_outside.specs.Told.{Appends};
 ghost use Rattle.machine.specs.OneStep.{last_of, sent_of};
 ghost use Rattle.machine.specs.Upset.{no_upsets};
 ghost use Rattle.pair_core.specs.Duo.{opening_duo, put_on};
-ghost use Rattle.pair_core.specs.Faults.{CountsFaults};
-ghost use Rattle.pair_core.specs.Turns.{end_of_step, has_waited, left_by, CountsOn, DuoFits, IsCountable, Turns};
+ghost use Rattle.pair_core.specs.Faults.{has_failed, CountsFaults};
+ghost use Rattle.pair_core.specs.Turns.{end_of_step, has_waited, left_by, CountsOn, DuoFits, IsCountable, MoreTurns, Turns, TurnsOn};
 
 use crate::way::Way;
-use machine::{LastCall, Machine, OneStep, Stepped, Taken, ThreadEnd, lead_step, trail_step};
+use machine::{
+    LastCall, Machine, OneStep, Stepped, Taken, ThreadEnd, lead_step, run_copied, trail_step,
+};
 use mid_code::Pair;
 use srmt_base::{Limits, Side};
 use srmt_outside::Outlet;
@@ -50,8 +52,8 @@ fn end_of(stepped: &Stepped) -> Option<ThreadEnd>
     ensures { result ≡ end_of_step stepped.now }
 {
     match stepped {
-        Stepped::Ended(end) => Some(*end),
-        Stepped::Went | Stepped::NotYet => None,
+        Stepped::MadeLast(end) => Some(*end),
+        Stepped::Made | Stepped::NotYet => None,
     }
 }
 
@@ -122,7 +124,7 @@ impl Duo {
         ensures faults { CountsFaults self.old.lead self.new.lead (O.faults outlet.old) (O.faults outlet.new) }
     {
         if let Some(end) = &self.lead_over {
-            return Stepped::Ended(*end);
+            return Stepped::MadeLast(*end);
         }
         let over = self.trail_over.is_some();
         let mut link = OneStep::new(self.acks.offer(over), self.words.spare(over), false);
@@ -147,7 +149,7 @@ impl Duo {
         ensures same { self.new.lead ≡ self.old.lead }
     {
         if let Some(end) = &self.trail_over {
-            return Stepped::Ended(*end);
+            return Stepped::MadeLast(*end);
         }
         let over = self.lead_over.is_some();
         let mut link = OneStep::new(self.words.offer(over), self.acks.spare(over), false);
@@ -186,6 +188,66 @@ impl Duo {
                 stepped
             }
         }
+    }
+
+    /// One event of a side, and the copied instructions behind it, in one run. It answers as the
+    /// event.
+    pub fn run<O: Outlet>(&mut self, pair: &Pair, outlet: &mut O, side: Side) -> Stepped
+        requires fits { DuoFits pair.now self.old }
+        requires countable { IsCountable self.old }
+        ensures turns { (events : List Event) × TurnsOn pair.now no_upsets side self.old self.new result events
+            × Appends (O.events outlet.old) (O.events outlet.new) events }
+        ensures fits { DuoFits pair.now self.new }
+        ensures faults { CountsFaults self.old.lead self.new.lead (O.faults outlet.old) (O.faults outlet.new) }
+    {
+        let stepped = self.act(pair, outlet, side);
+        self.more(pair, side);
+        stepped
+    }
+
+    // The copied instructions at which a side stands.
+    fn more(&mut self, pair: &Pair, side: Side)
+        requires fits { DuoFits pair.now self.old }
+        requires lead { self.old.lead_steps ≤ 2 ^ 62 }
+        requires trail { self.old.trail_steps ≤ 2 ^ 62 }
+        ensures more { (count : ℕ) × MoreTurns pair.now no_upsets side count self.old self.new }
+        ensures fits { DuoFits pair.now self.new }
+        ensures failed { has_failed self.new.lead ≡ has_failed self.old.lead }
+    {
+        match side {
+            Side::Lead => self.lead_more(pair),
+            Side::Trail => self.trail_more(pair),
+        }
+    }
+
+    // The copied instructions at which the leading side stands.
+    fn lead_more(&mut self, pair: &Pair)
+        requires fits { DuoFits pair.now self.old }
+        requires countable { self.old.lead_steps ≤ 2 ^ 62 }
+        ensures more { (count : ℕ) × MoreTurns pair.now no_upsets Lead count self.old self.new }
+        ensures fits { DuoFits pair.now self.new }
+        ensures failed { has_failed self.new.lead ≡ has_failed self.old.lead }
+    {
+        if self.lead_over.is_some() {
+            return;
+        }
+        let steps = run_copied(pair, &mut self.lead, Side::Lead);
+        self.lead_steps += u64::from(steps);
+    }
+
+    // The copied instructions at which the trailing side stands.
+    fn trail_more(&mut self, pair: &Pair)
+        requires fits { DuoFits pair.now self.old }
+        requires countable { self.old.trail_steps ≤ 2 ^ 62 }
+        ensures more { (count : ℕ) × MoreTurns pair.now no_upsets Trail count self.old self.new }
+        ensures fits { DuoFits pair.now self.new }
+        ensures same { self.new.lead ≡ self.old.lead }
+    {
+        if self.trail_over.is_some() {
+            return;
+        }
+        let steps = run_copied(pair, &mut self.trail, Side::Trail);
+        self.trail_steps += u64::from(steps);
     }
 }
 

@@ -1,4 +1,4 @@
-ghost use Rattle.std.specs.Prelude.{◌≡◌, ℕ, List, Option};
+ghost use Rattle.std.specs.Prelude.{◌≡◌, ℕ, List};
 ghost use Rattle.srmt_base.specs.declared.event.Event.{Event};
 ghost use Rattle.srmt_base.specs.declared.limits.Limits.{Limits};
 ghost use Rattle.srmt_outside.specs.Told.{Appends};
@@ -7,7 +7,7 @@ ghost use Rattle.machine.specs.Upset.{no_upsets};
 ghost use Rattle.pair_core.specs.Duo.{opening_duo};
 ghost use Rattle.pair_core.specs.Faults.{CountsFaults, faults_told};
 ghost use Rattle.pair_core.specs.Answer.{IsAnswer, FollowsIdeal};
-ghost use Rattle.pair_core.specs.Turns.{DuoFits, IsCountable, Turns};
+ghost use Rattle.pair_core.specs.Turns.{DuoFits, IsCountable, TurnsOn};
 ghost use Rattle.pair_core.specs.InTurn.{next_turn, IsOpening};
 
 use crate::duo::Duo;
@@ -39,19 +39,19 @@ pub fn alternate<O: Outlet>(duo: &mut Duo, pair: &Pair, outlet: &mut O) -> Ran
     }
 }
 
-// One event of this side, and whose turn is next.
+// One event of this side with the copied instructions behind it, and whose turn is next.
 fn turn<O: Outlet>(duo: &mut Duo, pair: &Pair, outlet: &mut O, side: Side) -> Side
     requires fits { DuoFits pair.now duo.old }
     requires countable { IsCountable duo.old }
-    ensures turn { (fails : Option ℕ) × (stepped : Stepped) × (events : List Event)
-        × Turns pair.now no_upsets side fails duo.old duo.new stepped events
+    ensures turns { (stepped : Stepped) × (events : List Event)
+        × TurnsOn pair.now no_upsets side duo.old duo.new stepped events
         × Appends (O.events outlet.old) (O.events outlet.new) events × (result ≡ next_turn stepped side) }
     ensures fits { DuoFits pair.now duo.new }
     ensures faults { CountsFaults duo.old.lead duo.new.lead (O.faults outlet.old) (O.faults outlet.new) }
 {
-    let stepped = duo.act(pair, outlet, side);
+    let stepped = duo.run(pair, outlet, side);
     match (&stepped, side) {
-        (Stepped::Went, _) => side,
+        (Stepped::Made, _) => side,
         (_, Side::Lead) => Side::Trail,
         (_, Side::Trail) => Side::Lead,
     }

@@ -46,4 +46,4 @@ loop-next-preserved c =
 pub returns-in-None-clause-comes : goal.returns-in-None-clause-comes
 returns-in-None-clause-comes c s is =
     subst (λ (rs : List ℕ). Comes c.args.program.now (state_at c.args.program.now s c.args.registers.now c.args.stand) [] (state_at c.args.program.now s rs c.loop-next.stand))
-    (sym c.in-None.ensures) (c.loop-next.invariant.comes s is)
+    (sym c.in-None.ensures.0) (c.loop-next.invariant.comes s is)

@@ -1,7 +1,8 @@
 use Rattle.std.proofs.Common.{◌<◌, false, [], ◌++◌, sym, ap, ◌∙◌, subst}
 use Rattle.srmt_outside.proofs.Told.{Appends-nothing, Appends-both}
 use Rattle.machine.specs.Upset.{no_upsets}
-use Rattle.pair_core.proofs.Alternating.{turns_left, turns_lower, turns_reach, countable, answered_so, opening_fits}
+use Rattle.pair_core.proofs.Alternating.{turns_left, countable, answered_so, opening_fits}
+use Rattle.pair_core.proofs.MoreTurns.{on_lower, on_reach}
 use Rattle.pair_core.proofs.Reaching.{reached_opening}
 use Rattle.verdicts.specs.declared.verdict.Ran.{Ran}
 use Rattle.machine.specs.Side.{Outcome}
@@ -33,19 +34,19 @@ pub loop-ran-smaller : goal.loop-ran-smaller
 loop-ran-smaller g c =
     let opening = c.requires in
     let so_far = c.loop-ran.invariant.reached opening.0 opening.1 opening.2 in
-    let turn = c.turn-side.ensures.turn in
-    subst (λ s. turns_left c.args.pair.now s c.turn-side.new.duo < turns_left c.args.pair.now c.loop-ran.side c.loop-ran.duo) (sym turn.5)
-    (turns_lower c.args.pair.now opening.0 opening.1 c.loop-ran.duo so_far.0 c.classed-classed.ensures.sites so_far.2 c.in_default.ensures c.loop-ran.side turn.0 c.turn-side.new.duo turn.1 turn.2 turn.3)
+    let turn = c.turn-side.ensures.turns in
+    subst (λ s. turns_left c.args.pair.now s c.turn-side.new.duo < turns_left c.args.pair.now c.loop-ran.side c.loop-ran.duo) (sym turn.4)
+    (on_lower c.args.pair.now opening.0 opening.1 c.loop-ran.duo so_far.0 so_far.2 c.loop-ran.side c.turn-side.new.duo turn.0 turn.1 turn.2 c.classed-classed.ensures.sites c.in_default.ensures)
 
 pub loop-ran-preserved : goal.loop-ran-preserved
 loop-ran-preserved g c =
-    let turn = c.turn-side.ensures.turn in
+    let turn = c.turn-side.ensures.turns in
     record {
       reached = λ input limits opening.
           let so_far = c.loop-ran.invariant.reached input limits opening in (
-            so_far.0 ++ turn.2,
-            Appends-both _ _ _ so_far.0 turn.2 so_far.1 turn.4,
-            turns_reach c.args.pair.now input limits c.loop-ran.duo so_far.0 so_far.2 c.loop-ran.side turn.0 c.turn-side.new.duo turn.1 turn.2 turn.3,
+            so_far.0 ++ turn.1,
+            Appends-both _ _ _ so_far.0 turn.1 so_far.1 turn.3,
+            on_reach c.args.pair.now input limits c.loop-ran.duo so_far.0 so_far.2 c.loop-ran.side c.turn-side.new.duo turn.0 turn.1 turn.2,
           );
       fits = c.turn-side.ensures.fits;
       faults = counted_on c.loop-ran.duo.lead c.turn-side.new.duo.lead _ _ _ c.loop-ran.invariant.faults c.turn-side.ensures.faults;

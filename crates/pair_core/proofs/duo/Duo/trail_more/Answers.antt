@@ -1,0 +1,10 @@
+use Rattle.std.proofs.Common.{sym, ◌∙◌, subst}
+use Rattle.srmt_base.specs.declared.side.Side.TheVariants.{Trail}
+use Rattle.machine.specs.Quiet.{QuietSteps}
+use Rattle.pair_core.proofs.MoreTurns.{trail_more}
+use Rattle.pair_core.proofs.duo.Duo.trail_more.Goals as goal
+
+pub returns-clause-more : goal.returns-clause-more
+returns-clause-more c =
+    let steps = subst (λ n. QuietSteps Trail c.args.pair.now n c.self.inside.trail c.run_copied-steps.new.m) (sym c.from.ensures) c.run_copied-steps.ensures.steps in
+    (c.from.result, trail_more c.args.pair.now c.self.inside c.args.self.now c.self.view_is c.from.result c.run_copied-steps.new.m (sym c.is_some.ensures ∙ c.if-is_some.false) steps)
