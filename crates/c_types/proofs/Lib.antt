@@ -4,3 +4,5 @@ pub mod Added
 pub mod Sizes
 pub mod Denotes
 pub mod Same
+pub mod OneObject
+pub mod Below

@@ -4,3 +4,4 @@ pub mod Rules
 pub mod Hashing
 pub mod Table
 pub mod Sizes
+pub mod OneObject

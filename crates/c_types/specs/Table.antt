@@ -10,7 +10,7 @@ use Rattle.c_types.specs.declared.operand.OperandRef.{OperandRef}
 use Rattle.c_types.specs.declared.type_ref.Shape.{Shape}
 use Rattle.c_types.specs.declared.type_ref.Shape.TheVariants as shape
 use Rattle.c_types.specs.Rules.{Operand, Ruled}
-use Rattle.c_types.specs.Types.{CType, void, integer, pointer, array, returning, taking, Qualified, cells_of, bytes_of}
+use Rattle.c_types.specs.Types.{CType, void, integer, pointer, array, returning, taking, Qualified, cells_of, bytes_of, parameters_of}
 
 -- the size of an object of a type
 abbrev pub size_of : CType → Size
@@ -100,6 +100,19 @@ CastIs (Ok found) (Ok t) = ⊤
 CastIs (Ok found) (Err rule) = ⊥
 CastIs (Err found) (Ok t) = ⊥
 CastIs (Err found) (Err rule) = found ≡ rule
+
+-- references stand for the first parameter of a function and for the function without it
+pub record IsTaking (rows : List Row) (r : TypeRef × TypeRef) (t : CType) : Type 0 where
+  pub parameter : CType
+  pub rest : CType
+  pub is : t ≡ taking parameter rest
+  pub parameter_stands : Stands rows r.0 parameter
+  pub rest_stands : Stands rows r.1 rest
+
+-- a function has a first parameter, or a type has none
+abbrev pub FirstParameterIs : List Row → Option (TypeRef × TypeRef) → CType → Type 0
+FirstParameterIs rows None t = parameters_of t ≡ []
+FirstParameterIs rows (Some r) t = IsTaking rows r t
 
 -- ---- what a table keeps
 

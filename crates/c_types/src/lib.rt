@@ -3,10 +3,12 @@
 #![tactic(auto)]
 
 mod assignment;
+mod declarations;
 mod form;
 mod integer;
 mod kinds;
 mod operand;
+mod parts;
 mod places;
 mod qualifiers;
 mod rules;
@@ -14,6 +16,7 @@ mod size;
 mod table;
 mod type_ref;
 
+pub use declarations::same_qualifiers;
 pub use form::{BinaryForm, ChoiceForm, Conversion};
 pub use integer::{integer_bytes, integer_cells, promoted, usual};
 pub use operand::OperandRef;

@@ -1,4 +1,5 @@
 ghost use Rattle.std.specs.Prelude.{◌≡◌, ◌<◌, ◌↔◌, [], IfOk, IfSome, IsNone, length};
+ghost use Rattle.c_types.specs.declared.type_ref.TypeRef.{TypeRef as TypeRef'};
 ghost use Rattle.c_types.specs.Types.{pointer_to as pointer_type, array_of as array_type, returning as returning_type, taking as taking_type, same_type, cells_of};
 ghost use Rattle.c_types.specs.Table.{row_type, shape_type, shape_of as shape_of_row, types_of, type_at, qualified_at, Stands, Extends, IsBelow, IsMadeBelow, IsShapedBelow};
 
@@ -88,6 +89,15 @@ impl Types {
     pub fn standing(&self, of: TypeRef) -> TypeRef
         ensures { Stands self.now result (type_at self.now of) }
     {
+        self.known(of)
+    }
+
+    /// The one reference that stands for the type of a reference.
+    pub fn reference(&self, of: TypeRef) -> TypeRef
+        ensures same { Stands self.now result (type_at self.now of) }
+        ensures one { (other : TypeRef') → Stands self.now other (type_at self.now of) → other ≡ result }
+    {
+        let _ = &self.rows;
         self.known(of)
     }
 

@@ -1,0 +1,5 @@
+pub mod Rows
+pub mod Changed
+pub mod Firsts
+pub mod Names
+pub mod Added

@@ -1,0 +1,9 @@
+use Rattle.std.proofs.Common.{ap}
+use Rattle.typing_rules.specs.Known.{or_entity}
+use Rattle.c_entities.proofs.entities.Entities.is_external.Goals as goal
+
+pub returns-in-None : goal.returns-in-None
+returns-in-None c rows k are = ap (λ o. (or_entity o).is_external) (c.in-None.ensures rows k are)
+
+pub returns-in-Some : goal.returns-in-Some
+returns-in-Some c rows k are = ap (λ o. (or_entity o).is_external) (c.in-Some.ensures rows k are)

@@ -1,0 +1,5 @@
+pub mod Binding
+pub mod Lookups
+pub mod Changes
+pub mod LocalChanges
+pub mod Growing

@@ -1,0 +1,4 @@
+pub mod Casting
+pub mod Indexing
+pub mod Passing
+pub mod FirstArgument

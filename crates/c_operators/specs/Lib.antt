@@ -1,0 +1,2 @@
+-- Arguments of a call (Arguments).
+pub mod Arguments

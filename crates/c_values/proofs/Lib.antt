@@ -1,0 +1,4 @@
+pub mod Means
+pub mod Answering
+pub mod Naming
+pub mod TermParts
