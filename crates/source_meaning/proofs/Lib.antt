@@ -1,0 +1,15 @@
+pub mod Worked
+pub mod WorkedPrograms
+pub mod QuietLemmas
+pub mod Agreeing
+pub mod BoundLemmas
+pub mod BoundStatements
+pub mod BoundCalls
+pub mod BudgetsExact
+pub mod ValueLemmas
+pub mod ValueExpressions
+pub mod ValueStatements
+pub mod ValueStart
+pub mod EventLemmas
+pub mod EventExpressions
+pub mod EventStatements
