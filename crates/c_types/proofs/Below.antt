@@ -42,7 +42,7 @@ unfolding filled
 no-type rows n t h stands =
     let more : Extends rows (filled rows n ++ other_row ∷ []) = record { more = replicate (n - length rows) other_row ++ other_row ∷ []; is = append_assoc rows (replicate (n - length rows) other_row) (other_row ∷ []) } in
     let there = get_or_from_slice_get (types_of (filled rows n ++ other_row ∷ [])) n _ void
-                (ap (slice_get (types_of (filled rows n ++ other_row ∷ []))) (sym (length-filled rows n h)) ∙ last-type (filled rows n)) in
+    (ap (slice_get (types_of (filled rows n ++ other_row ∷ []))) (sym (length-filled rows n h)) ∙ last-type (filled rows n)) in
     let one : returning no_qualifiers void ≡ void = sym there ∙ stands.always _ more ∙ sym (stands.always rows (Extends-refl rows)) ∙ type_at-past rows n h in
     true≢false (sym (ap is_void one))
 

@@ -124,8 +124,7 @@ fn comes_to(
     let finished = srmtrun_still(alloc, words, files, outlet, notes);
     let ended = finished.answer == answer_of(case.want, case.status)
         && finished.status == case.status;
-    let noted =
-        finished.noted == (case.fails[2] == 0) && notes.bytes() == case.notes.as_bytes();
+    let noted = finished.noted == (case.fails[2] == 0) && notes.bytes() == case.notes.as_bytes();
     Ok(ended && noted && written(alloc, case, outlet.events())?)
 }
 
