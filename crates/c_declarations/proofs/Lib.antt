@@ -1,0 +1,5 @@
+mod Runs
+mod Insides
+mod Items
+mod Scalars
+mod Free

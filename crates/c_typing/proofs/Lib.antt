@@ -1,0 +1,6 @@
+pub mod Spine
+pub mod Items
+pub mod Bodies
+pub mod Definitions
+pub mod Externals
+pub mod Resolved
