@@ -27,16 +27,18 @@ use Rattle.pair_core.specs.Fit.{IsPrefix}
 use Rattle.pair_core.proofs.Sounds.{first_events}
 use Rattle.mid_run.specs.Progress.{end_of as progress_end}
 use Rattle.answers.specs.declared.answer.RunAnswer.{RunAnswer}
-use Rattle.answers.specs.declared.answer.RunAnswer.TheVariants.{Alone, Ran as RanBoth, Help, Version, Usage, ReadFault, TooLong, Refused, WriteFault, OutOfMemory}
+use Rattle.answers.specs.declared.answer.RunAnswer.TheVariants.{Alone, Ran as RanBoth, Checked, Help, Version, Usage, ReadFault, TooLong, Refused, WriteFault, OutOfMemory}
+use Rattle.answers.specs.declared.answer.CompileRefusal.{CompileRefusal}
+use Rattle.answers.specs.declared.answer.CompileRefusal.TheVariants.{Form}
 use Rattle.first_form.specs.declared.source.FirstForm.{FirstForm}
 use Rattle.srmtrun.specs.Answer.{answer_from}
 use Rattle.srmtrun.specs.declared.words.Mode.{Mode}
-use Rattle.srmtrun.specs.declared.words.Mode.TheVariants.{Single, Alternate}
+use Rattle.srmtrun.specs.declared.words.Mode.TheVariants.{Single, Alternate, Check}
 use Rattle.first_form.specs.FirstForm.{IsFirstForm}
 use Rattle.first_form.specs.Lowered.{Implements}
 use Rattle.first_form.specs.Meaning.{events_of, end_of}
 use Rattle.srmtrun.specs.declared.still.TheConstants.{LIMITS}
-use Rattle.srmtrun.specs.Still.{AsksFor, RunsBoth}
+use Rattle.srmtrun.specs.Still.{AsksFor, RunsBoth, IsNoSource, RefusedAs}
 use Rattle.srmtrun.specs.Parts.{Serves, StopsCompiling, StopsRun, RanBySides}
 
 -- a run that has not ended has written the first events of the whole run
@@ -63,18 +65,25 @@ prefix_written program limits start end before after is so_far fs over means =
     (length es, so_far.2 ∙ ap (λ xs. option_map (λ told. told ++ xs) before) (sym (run_front program (started program [] limits) end es fs over runs means)))
 
 module _ (told : Option (List ℕ)) (before after : Option (List Event)) (read_failed write_failed : Type 0) (mode : Mode) (bytes : List ℕ) (same : IfSome told (λ t. t ≡ bytes)) (within : length bytes ≤ 1048576) where
-  -- a source that has no program is told so
-  pub compile_serves : (answer : RunAnswer) → StopsCompiling bytes answer → Serves mode told before before read_failed write_failed answer
-  compile_serves (Refused cause) none = (IfSome_then told same (λ t e. (subst (λ (b : List ℕ). length b ≤ 1048576) (sym e) within, λ form is. none form (subst (λ (b : List ℕ). IsFirstForm b form) e is))), refl)
-  compile_serves OutOfMemory none = refl
-  compile_serves (Alone end) none = absurd none
-  compile_serves (RanBoth ran) none = absurd none
-  compile_serves WriteFault none = absurd none
-  compile_serves ReadFault none = absurd none
-  compile_serves TooLong none = absurd none
-  compile_serves Usage none = absurd none
-  compile_serves Help none = absurd none
-  compile_serves Version none = absurd none
+  refused_as : (m : Mode) (cause : CompileRefusal) → (m ≡ Check → ⊥) → cause ≡ Form → IsNoSource told → RefusedAs m told cause
+  refused_as Single cause runs is none = (is, none)
+  refused_as Alternate cause runs is none = (is, none)
+  refused_as Check cause runs is none = absurd (runs refl)
+
+  -- a source that has no program is told so, where it is to run
+  pub compile_serves : (mode ≡ Check → ⊥) → (answer : RunAnswer) → StopsCompiling bytes answer → Serves mode told before before read_failed write_failed answer
+  compile_serves runs (Refused cause) none =
+      (refused_as mode cause runs none.0 (IfSome_then told same (λ t e. (subst (λ (b : List ℕ). length b ≤ 1048576) (sym e) within, λ form is. none.1 form (subst (λ (b : List ℕ). IsFirstForm b form) e is)))), refl)
+  compile_serves runs OutOfMemory none = refl
+  compile_serves runs (Alone end) none = absurd none
+  compile_serves runs (RanBoth ran) none = absurd none
+  compile_serves runs Checked none = absurd none
+  compile_serves runs WriteFault none = absurd none
+  compile_serves runs ReadFault none = absurd none
+  compile_serves runs TooLong none = absurd none
+  compile_serves runs Usage none = absurd none
+  compile_serves runs Help none = absurd none
+  compile_serves runs Version none = absurd none
 
   pub run_serves : mode ≡ Single → (limits : Limits) (program : MidProgram) (form : FirstForm) → IsFirstForm bytes form → Implements program form → (r : Result SourceEnd RunAnswer) → IfOk r (λ end. (events : List Event) × Middle program [] limits events end × Appends before after events) → IfErr r (StopsRun program limits before after write_failed) → Serves mode told before after read_failed write_failed (answer_from r)
   run_serves how limits program form is code (Ok end) ok err =
@@ -84,6 +93,7 @@ module _ (told : Option (List ℕ)) (before after : Option (List Event)) (read_f
   run_serves how limits program form is code (Err OutOfMemory) ok err = err
   run_serves how limits program form is code (Err (Alone end)) ok err = absurd err
   run_serves how limits program form is code (Err (RanBoth ran)) ok err = absurd err
+  run_serves how limits program form is code (Err Checked) ok err = absurd err
   run_serves how limits program form is code (Err Usage) ok err = absurd err
   run_serves how limits program form is code (Err ReadFault) ok err = absurd err
   run_serves how limits program form is code (Err TooLong) ok err = absurd err
@@ -146,6 +156,7 @@ compile_asks source (Refused cause) before after name none asked = asked
 compile_asks source OutOfMemory before after name none asked = (1, asked)
 compile_asks source (Alone end) before after name none asked = absurd none
 compile_asks source (RanBoth ran) before after name none asked = absurd none
+compile_asks source Checked before after name none asked = absurd none
 compile_asks source WriteFault before after name none asked = absurd none
 compile_asks source ReadFault before after name none asked = absurd none
 compile_asks source TooLong before after name none asked = absurd none
@@ -160,6 +171,7 @@ module _ (program : MidProgram) (limits : Limits) (before after : Option (List E
   run_asks (Err WriteFault) err = asked
   run_asks (Err (Alone end)) err = absurd err
   run_asks (Err (RanBoth ran)) err = absurd err
+  run_asks (Err Checked) err = absurd err
   run_asks (Err Usage) err = absurd err
   run_asks (Err ReadFault) err = absurd err
   run_asks (Err TooLong) err = absurd err

@@ -12,22 +12,24 @@ use Rattle.verdicts.specs.declared.verdict.Verdict.TheVariants.{WriteFault as Fa
 use Rattle.machine.specs.Upset.{no_upsets}
 use Rattle.pair_core.specs.Answer.{IsAnswer, FollowsIdeal}
 use Rattle.answers.specs.declared.answer.RunAnswer.{RunAnswer}
-use Rattle.answers.specs.declared.answer.RunAnswer.TheVariants.{Alone, Ran as RanBoth, Help, Version, Usage, ReadFault, TooLong, Refused, WriteFault, OutOfMemory}
+use Rattle.answers.specs.declared.answer.CompileRefusal.TheVariants.{Form}
+use Rattle.answers.specs.declared.answer.RunAnswer.TheVariants.{Alone, Ran as RanBoth, Checked, Help, Version, Usage, ReadFault, TooLong, Refused, WriteFault, OutOfMemory}
 use Rattle.srmtrun.specs.declared.words.Mode.{Mode}
-use Rattle.srmtrun.specs.declared.words.Mode.TheVariants.{Single, Alternate}
+use Rattle.srmtrun.specs.declared.words.Mode.TheVariants.{Single, Alternate, Check}
 use Rattle.first_form.specs.declared.source.FirstForm.{FirstForm}
 use Rattle.first_form.specs.FirstForm.{IsFirstForm}
-use Rattle.srmtrun.specs.Still.{IsNoSource, IsTooLong, RunsToEnd, StopsWriting, RanOnSource}
+use Rattle.srmtrun.specs.Still.{IsTooLong, RunsToEnd, StopsWriting, RanOnSource, HasTyping, RefusedAs}
 
 -- What an answer says of the mode, of the program's file and of the events, for each answer but those that the words
 -- alone decide.
 abbrev pub Serves : Mode → Option (List ℕ) → Option (List Event) → Option (List Event) → Type 0 → Type 0 → RunAnswer → Type 0
 Serves mode told before after read_failed write_failed (Alone end) = (mode ≡ Single) × RunsToEnd told before after end
 Serves mode told before after read_failed write_failed (RanBoth ran) = (mode ≡ Alternate) × RanOnSource told before after write_failed ran
+Serves mode told before after read_failed write_failed Checked = (mode ≡ Check) × HasTyping told × (after ≡ before)
 Serves mode told before after read_failed write_failed WriteFault = (mode ≡ Single) × write_failed × StopsWriting told before after
 Serves mode told before after read_failed write_failed ReadFault = read_failed × (after ≡ before)
 Serves mode told before after read_failed write_failed TooLong = IsTooLong told × (after ≡ before)
-Serves mode told before after read_failed write_failed (Refused cause) = IsNoSource told × (after ≡ before)
+Serves mode told before after read_failed write_failed (Refused cause) = RefusedAs mode told cause × (after ≡ before)
 Serves mode told before after read_failed write_failed OutOfMemory = after ≡ before
 Serves mode told before after read_failed write_failed Usage = ⊥
 Serves mode told before after read_failed write_failed Help = ⊥
@@ -35,10 +37,11 @@ Serves mode told before after read_failed write_failed Version = ⊥
 
 -- why a source has no program
 abbrev pub StopsCompiling : List ℕ → RunAnswer → Type 0
-StopsCompiling source (Refused cause) = (form : FirstForm) → IsFirstForm source form → ⊥
+StopsCompiling source (Refused cause) = (cause ≡ Form) × ((form : FirstForm) → IsFirstForm source form → ⊥)
 StopsCompiling source OutOfMemory = Unit {0}
 StopsCompiling source (Alone end) = ⊥
 StopsCompiling source (RanBoth ran) = ⊥
+StopsCompiling source Checked = ⊥
 StopsCompiling source WriteFault = ⊥
 StopsCompiling source ReadFault = ⊥
 StopsCompiling source TooLong = ⊥
@@ -52,6 +55,7 @@ StopsRun program limits before after write_failed WriteFault = write_failed × (
 StopsRun program limits before after write_failed OutOfMemory = after ≡ before
 StopsRun program limits before after write_failed (Alone end) = ⊥
 StopsRun program limits before after write_failed (RanBoth ran) = ⊥
+StopsRun program limits before after write_failed Checked = ⊥
 StopsRun program limits before after write_failed ReadFault = ⊥
 StopsRun program limits before after write_failed TooLong = ⊥
 StopsRun program limits before after write_failed (Refused cause) = ⊥

@@ -9,11 +9,15 @@ use Rattle.mid_code.specs.Closed.{everything_shared}
 use Rattle.machine.specs.Upset.{no_upsets}
 use Rattle.pair_core.specs.Answer.{IsAnswer, verdict_as}
 use Rattle.answers.specs.declared.answer.RunAnswer.{RunAnswer}
-use Rattle.answers.specs.declared.answer.RunAnswer.TheVariants.{Alone, Ran as RanBoth, Help, Version, Usage, ReadFault, TooLong, Refused, WriteFault, OutOfMemory}
+use Rattle.answers.specs.declared.answer.RunAnswer.TheVariants.{Alone, Ran as RanBoth, Checked, Help, Version, Usage, ReadFault, TooLong, Refused, WriteFault, OutOfMemory}
+use Rattle.answers.specs.declared.answer.CompileRefusal.{CompileRefusal}
+use Rattle.answers.specs.declared.answer.CompileRefusal.TheVariants.{Form}
+use Rattle.c_typed.specs.Statements.{Program}
+use Rattle.c_front.specs.Front.{TypesMain, RefusesMain}
 use Rattle.first_form.specs.declared.source.FirstForm.{FirstForm}
 use Rattle.srmtrun.specs.declared.still.TheConstants.{LIMITS}
 use Rattle.srmtrun.specs.declared.words.Mode.{Mode}
-use Rattle.srmtrun.specs.declared.words.Mode.TheVariants.{Single, Alternate}
+use Rattle.srmtrun.specs.declared.words.Mode.TheVariants.{Single, Alternate, Check}
 use Rattle.first_form.specs.FirstForm.{IsFirstForm}
 use Rattle.first_form.specs.Lowered.{program_of}
 use Rattle.first_form.specs.Meaning.{events_of, end_of}
@@ -61,11 +65,26 @@ pub record RunsBoth (form : FirstForm) (before after : Option (List Event)) (wri
 abbrev pub RanOnSource : Option (List ℕ) → Option (List Event) → Option (List Event) → Type 0 → Ran → Type 0
 RanOnSource told before after write_failed ran = (form : FirstForm) × IsSource told form × RunsBoth form before after write_failed ran
 
+-- the file has a typed program as the only file of its program
+abbrev pub HasTyping : Option (List ℕ) → Type 0
+HasTyping told = IfSome told (λ bytes. (length bytes ≤ 1048576) × ((p : Program) × TypesMain bytes p))
+
+-- what a refusal says of the mode and of the program's file
+abbrev pub RefusedAs : Mode → Option (List ℕ) → CompileRefusal → Type 0
+RefusedAs Check told cause = IfSome told (λ bytes. (length bytes ≤ 1048576) × RefusesMain bytes cause)
+RefusedAs Single told cause = (cause ≡ Form) × IsNoSource told
+RefusedAs Alternate told cause = (cause ≡ Form) × IsNoSource told
+
+-- what is answered to a source that is only checked: this, unless it was not read or memory ran out
+abbrev pub AnswersCheck : RunAnswer → Type 0 → RunAnswer → Type 0
+AnswersCheck expected read_failed answer = (answer ≡ expected) ⊎ ((answer ≡ ReadFault) × read_failed) ⊎ (answer ≡ OutOfMemory)
+
 -- the name is asked for, once; where memory ran out, at most once
 abbrev pub AsksFor : RunAnswer → Option (List (List ℕ)) → Option (List (List ℕ)) → List ℕ → Type 0
 AsksFor OutOfMemory before after name = AppendsPrefix before after (name ∷ [])
 AsksFor (Alone end) before after name = Appends before after (name ∷ [])
 AsksFor (RanBoth ran) before after name = Appends before after (name ∷ [])
+AsksFor Checked before after name = Appends before after (name ∷ [])
 AsksFor WriteFault before after name = Appends before after (name ∷ [])
 AsksFor ReadFault before after name = Appends before after (name ∷ [])
 AsksFor TooLong before after name = Appends before after (name ∷ [])
@@ -79,6 +98,7 @@ AsksFor Usage before after name = ⊥
 abbrev pub AnswersForm : Mode → FirstForm → Option (List Event) → Option (List Event) → Type 0 → Type 0 → RunAnswer → Type 0
 AnswersForm mode form before after read_failed write_failed (Alone end) = (mode ≡ Single) × (end ≡ end_of form) × Appends before after (events_of form)
 AnswersForm mode form before after read_failed write_failed (RanBoth ran) = (mode ≡ Alternate) × RunsBoth form before after write_failed ran
+AnswersForm mode form before after read_failed write_failed Checked = (mode ≡ Check) × (after ≡ before)
 AnswersForm mode form before after read_failed write_failed WriteFault = (mode ≡ Single) × write_failed × AppendsPrefix before after (events_of form)
 AnswersForm mode form before after read_failed write_failed ReadFault = read_failed × (after ≡ before)
 AnswersForm mode form before after read_failed write_failed OutOfMemory = after ≡ before
@@ -86,4 +106,4 @@ AnswersForm mode form before after read_failed write_failed Usage = ⊥
 AnswersForm mode form before after read_failed write_failed Help = ⊥
 AnswersForm mode form before after read_failed write_failed Version = ⊥
 AnswersForm mode form before after read_failed write_failed TooLong = ⊥
-AnswersForm mode form before after read_failed write_failed (Refused cause) = ⊥
+AnswersForm mode form before after read_failed write_failed (Refused cause) = (mode ≡ Check) × (after ≡ before)

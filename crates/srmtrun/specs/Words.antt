@@ -3,7 +3,7 @@ use Rattle.std.specs.Prelude.{◌≡◌, ℕ, Bool, not, ◌&&◌, ◌⊎◌, na
 use Rattle.std.specs.List.{starts_with, ends_with}
 use Rattle.std.specs.declared.alloc.Global.{Global}
 use Rattle.srmtrun.specs.declared.words.Mode.{Mode}
-use Rattle.srmtrun.specs.declared.words.Mode.TheVariants.{Single, Alternate}
+use Rattle.srmtrun.specs.declared.words.Mode.TheVariants.{Single, Alternate, Check}
 use Rattle.srmtrun.specs.declared.words.Question.{Question}
 use Rattle.srmtrun.specs.declared.words.Question.TheVariants.{Help, Version}
 
@@ -15,6 +15,7 @@ texts words = map string_bytes words
 abbrev pub flag_of : Mode → List ℕ
 flag_of Single = codes "--single"
 flag_of Alternate = codes "--alternate"
+flag_of Check = codes "--check"
 
 -- a word names a source: it begins as no flag does, and ends as no object file does
 abbrev pub names_source : List ℕ → Bool

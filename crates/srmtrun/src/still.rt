@@ -10,19 +10,23 @@ ghost use Rattle.mid_code.specs.Closed.{everything_shared};
 ghost use Rattle.mid_code.specs.Pairs.{HasSites};
 ghost use Rattle.verdicts.specs.declared.verdict.Ran.{Ran};
 ghost use Rattle.pair_core.specs.Faults.{faults_told};
+ghost use Rattle.answers.specs.declared.answer.CompileRefusal.{CompileRefusal as CompileRefusal'};
+ghost use Rattle.c_typed.specs.Statements.{Program};
+ghost use Rattle.c_front.specs.Front.{TypesMain, RefusesMain};
 ghost use Rattle.answers.specs.Answer.{final_status, NeverRan};
 ghost use Rattle.answers.specs.Notes.{lines_of, written};
 ghost use Rattle.first_form.specs.declared.source.FirstForm.{FirstForm};
 ghost use Rattle.first_form.specs.FirstForm.{IsFirstForm};
 ghost use Rattle.first_form.specs.Lowered.{Implements};
 ghost use Rattle.srmtrun.specs.declared.words.Mode.{Mode};
-ghost use Rattle.srmtrun.specs.Answer.{answer_from, both_from, IsOfWords, write_faults_after};
-ghost use Rattle.srmtrun.specs.Still.{Names, IsNoSource, IsTooLong, RunsToEnd, RanOnSource, StopsWriting, AsksFor, AnswersForm};
+ghost use Rattle.srmtrun.specs.Answer.{answer_from, both_from, check_from, IsOfWords, write_faults_after};
+ghost use Rattle.srmtrun.specs.Still.{Names, HasTyping, RefusedAs, AnswersCheck, IsTooLong, RunsToEnd, RanOnSource, StopsWriting, AsksFor, AnswersForm};
 ghost use Rattle.srmtrun.specs.Parts.{Serves, StopsCompiling, StopsRun, RanBySides};
 ghost use Rattle.srmtrun.specs.Words.{texts, Takes, Asks, IsUsage};
 
 use crate::words::{Mode, Question, read_question, read_words};
 use answers::{CompileRefusal, Finished, RunAnswer, finish};
+use c_front::check_main;
 use first_form::{FormRefusal, compile_first_form, pair_of};
 use mid_code::MidProgram;
 use mid_run::MidRun;
@@ -60,6 +64,15 @@ pub fn srmtrun_still<F: Files, O: Outlet + Send, N: Sink>(
         (Rose (F.faults files.old) (F.faults files.new))
         (Rose (O.faults outlet.old) (O.faults outlet.new)) result.answer }
 
+    // A program that is only checked is answered Checked exactly where its file has a typed program as the only one, and
+    // its first refusal exactly where it has none.
+    ensures typed { (program bytes : List ℕ) (typed : Program) → Takes (texts words.now) Mode.Check program
+        → F.contents files.old program ≡ Some bytes → length bytes ≤ 1048576 → TypesMain bytes typed
+        → AnswersCheck RunAnswer.Checked (Rose (F.faults files.old) (F.faults files.new)) result.answer }
+    ensures untyped { (program bytes : List ℕ) (cause : CompileRefusal') → Takes (texts words.now) Mode.Check program
+        → F.contents files.old program ≡ Some bytes → length bytes ≤ 1048576 → RefusesMain bytes cause
+        → AnswersCheck (RunAnswer.Refused cause) (Rose (F.faults files.old) (F.faults files.new)) result.answer }
+
     // When each answer comes.
     ensures usage { (result.answer ≡ RunAnswer.Usage) ↔ IsUsage (texts words.now) }
     ensures help { (result.answer ≡ RunAnswer.Help) ↔ Asks (texts words.now) Question.Help }
@@ -80,8 +93,10 @@ pub fn srmtrun_still<F: Files, O: Outlet + Send, N: Sink>(
         → Rose (F.faults files.old) (F.faults files.new) }
     ensures too_long { result.answer ≡ RunAnswer.TooLong → Names (texts words.now)
         (λ mode program. IsTooLong (F.contents files.old program)) }
-    ensures form { result.answer ≡ RunAnswer.Refused CompileRefusal.Form → Names (texts words.now)
-        (λ mode program. IsNoSource (F.contents files.old program)) }
+    ensures refused { (cause : CompileRefusal') → result.answer ≡ RunAnswer.Refused cause → Names (texts words.now)
+        (λ mode program. RefusedAs mode (F.contents files.old program) cause) }
+    ensures checked { result.answer ≡ RunAnswer.Checked → Names (texts words.now)
+        (λ mode program. (mode ≡ Mode.Check) × HasTyping (F.contents files.old program)) }
     ensures no_event { NeverRan result.answer → O.events outlet.new ≡ O.events outlet.old }
 
     // What it asks of the files, and what it leaves.
@@ -168,6 +183,10 @@ fn serve<F: Files, O: Outlet>(
             Ok(ran) => RunAnswer::Ran(ran),
             Err(answer) => answer,
         },
+        Mode::Check => match checked(alloc, program, files) {
+            Ok(()) => RunAnswer::Checked,
+            Err(answer) => answer,
+        },
     }
 }
 
@@ -211,6 +230,21 @@ fn both<F: Files, O: Outlet>(
     let source = load(alloc, name, files)?;
     let program = compile(alloc, &source)?;
     Ok(run_sides(alloc, program, outlet)?)
+}
+
+/// Checks a source as the only file of a program, or gives the answer that stopped it. It writes no event.
+fn checked<F: Files>(alloc: Global, name: &str, files: &mut F) -> Result<(), RunAnswer>
+    ensures serves { (events : Option (List Event)) (write_failed : Type 0)
+        → Serves Mode.Check (F.contents files.old name.now) events events
+        (Rose (F.faults files.old) (F.faults files.new)) write_failed (check_from result) }
+    ensures asks { AsksFor (check_from result) (F.asked files.old) (F.asked files.new) name.now }
+    ensures contents { F.contents files.new ≡ F.contents files.old }
+    ensures read_faults { F.faults files.old ≤ F.faults files.new }
+    ensures write_faults { (faults : ℕ) → write_faults_after (check_from result) faults ≡ faults }
+{
+    let source = load(alloc, name, files)?;
+    let _program = check_main(alloc, &source)?;
+    Ok(())
 }
 
 /// The bytes of a source.

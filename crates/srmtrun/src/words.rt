@@ -10,6 +10,8 @@ pub enum Mode {
     Single,
     /// By both sides in turn: `--alternate`.
     Alternate,
+    /// Not at all: it is only checked, `--check`.
+    Check,
 }
 
 /// What a word that stands alone asks of the program itself.
@@ -62,6 +64,7 @@ fn mode_of(word: &str) -> Option<Mode>
     match word {
         "--single" => Some(Mode::Single),
         "--alternate" => Some(Mode::Alternate),
+        "--check" => Some(Mode::Check),
         _ => None,
     }
 }
