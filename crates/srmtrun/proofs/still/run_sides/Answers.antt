@@ -12,3 +12,6 @@ start-requires g c = subst (λ (p : SharedProgram). FitLimits p.program LIMITS) 
 pub returns-clause-ok : goal.returns-clause-ok
 returns-clause-ok g c =
     ran_by_sides _ _ _ _ _ _ _ _ c.in_ok-pair.ensures c.new.ensures.items c.in_ok-duo.ensures.opening c.alternate.ensures.answer (rose_by _ _ _ c.alternate.ensures.faults)
+
+pub alternate-requires : goal.alternate-requires
+alternate-requires g c = (c.new.result.items, LIMITS, c.in_ok-duo.ensures.opening)
