@@ -93,7 +93,7 @@ module _ (src : Bytes) (expr : Start → Reader Expr) (declarator : Naming → R
   nothing_more k x [] e = refl
   nothing_more k x (t ∷ rest) e = rw (none_of is_among_binary (kinds (binary_operators k)) (code t) (all_among k) e) refl
 
-  ladder_ends : (n k : ℕ) (x : Expr) (w : List Token) → may_go_on w ≡ false → ladder src expr declarator n k x w ≡ Ok (x, w)
+  pub ladder_ends : (n k : ℕ) (x : Expr) (w : List Token) → may_go_on w ≡ false → ladder src expr declarator n k x w ≡ Ok (x, w)
   unfolding ladder
   ladder_ends zero k x w e = refl
   ladder_ends (suc n) k x w e = ap (λ r. and_then r (λ y. ladder src expr declarator n (k + 1) y)) (nothing_more k x w e) ∙ ladder_ends n (k + 1) x w e

@@ -13,6 +13,7 @@ use crate::codes::{
 use crate::fault::{Fault, Read};
 use crate::grammar::Grammar;
 use crate::leaf::spelling;
+use crate::list::with_item;
 use crate::start::{Naming, Start};
 use crate::tokens::{begins, begins_in, encloses, line_here, one, sign};
 use c_lexer::Token;
@@ -257,7 +258,8 @@ where
                 break;
             }
             let (next, more) = self.suffix(rest)?;
-            found.push(next)?;
+            let longer = with_item(self.alloc, found, next)?;
+            found = longer;
             rest = more;
         }
         Ok((found, rest))

@@ -433,7 +433,7 @@ where
 
     /// The operators of the levels below a number behind a left operand, with it, one level after the other.
     #[cycle(level)]
-    #[tactic(auto, unfolding(crate::specs::Parts::ladder))]
+    #[tactic(auto, using(crate::proofs::Ladder::ladder_ends), unfolding(crate::specs::Parts::ladder))]
     fn ladder<'t>(
         &self,
         levels: u8,
@@ -446,6 +446,9 @@ where
         let mut left = left;
         let mut rest = tokens;
         for level in 0..levels {
+            if !may_go_on(rest) {
+                return Ok((left, rest));
+            }
             let (longer, more) = self.operations(level, left, rest)?;
             left = longer;
             rest = more;

@@ -13,6 +13,7 @@ mod grammar;
 mod hub;
 mod law;
 mod leaf;
+mod list;
 mod start;
 pub mod tokens;
 
@@ -20,4 +21,5 @@ pub use declarator::{first_line, specifiers};
 pub use fault::{Fault, Read};
 pub use hub::{declarator_at, expr_at};
 pub use law::{one_expression, spellings};
+pub use list::with_item;
 pub use start::{Naming, Start};

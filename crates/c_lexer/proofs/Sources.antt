@@ -1,12 +1,12 @@
 -- A source: one list of tokens or one fault at most, and how a source goes on behind a piece.
-use Rattle.std.proofs.Common.{◌≡◌, ℕ, ◌+◌, ◌≤◌, ◌<◌, ◌≢◌, ◌⊎◌, Bool, true, false, List, [], ◌∷◌, ◌++◌, length, take, drop, Result, Ok, Err, IfErr, MatchResult, refl, ap, sym, ◌∙◌, subst, inl, arith, append-nil, length-take-le, append_assoc}
+use Rattle.std.proofs.Common.{◌≡◌, ℕ, ◌+◌, ◌≤◌, ◌<◌, ◌≢◌, ◌⊎◌, Bool, true, false, List, [], ◌∷◌, ◌++◌, length, take, drop, Result, Ok, Err, IfErr, MatchResult, refl, ap, sym, ◌∙◌, subst, inl, arith, append-nil, get_or, length-take-le, append_assoc}
 use Rattle.std.proofs.lemmas.List.{take_at, drop_at, take-append-drop, nil_from_length}
 use Rattle.c_lexer.specs.declared.token.Token.{Token}
 use Rattle.c_lexer.specs.declared.token.LexRefusal.{LexRefusal}
 use Rattle.c_lexer.specs.declared.token.LexRefusal.TheVariants.{BadByte, Memory}
 use Rattle.c_lexer.specs.declared.piece.Piece.{Piece}
 use Rattle.c_lexer.specs.declared.piece.Piece.TheVariants.{Blank, LineComment, BlockComment, Include, Lexeme}
-use Rattle.c_lexer.specs.Tokens.{Bytes, IsPiece, IsFault, Cuts, AtEnd, first_after, line_feeds, tokens_of, length_of, LexesFrom, Lexes, RefusesFrom, Refuses}
+use Rattle.c_lexer.specs.Tokens.{Bytes, IsPiece, IsFault, Cuts, AtEnd, is_blank, first_after, line_feeds, tokens_of, length_of, LexesFrom, Lexes, RefusesFrom, Refuses}
 use Rattle.c_lexer.specs.Scan.{front, mark, punctuator, punctuator_of_length, token_at}
 use Rattle.c_lexer.proofs.Pieces.{Right, front_right}
 use Rattle.c_lexer.proofs.Again.{piece_again, fault_again}
@@ -177,6 +177,16 @@ fails_on_to source first then_first at end bytes word rest piece n h fits e w r 
     (subst (λ t. FailsOn source (first_after first piece (take n bytes)) t rest) place
     (subst (λ t. FailsOn source (first_after first piece (take n bytes)) (at + n) t) (sym r)
     (fails_on_past source first at bytes piece n h fits e g)))
+
+-- ---- a blank
+
+pub blank_found : (first : Bool) (at b : ℕ) (bytes : Bytes) → b ≡ get_or bytes 0 0 → is_blank b ≡ true → front first at bytes ≡ Ok (Blank, 1)
+unfolding front
+blank_found first at b bytes same e = rw (sym same, e) refl
+
+pub blank_word : (b : ℕ) (bytes : Bytes) → 0 < length bytes → b ≡ get_or bytes 0 0 → b ∷ [] ≡ take 1 bytes
+blank_word b [] h same = absurd (omega arith)
+blank_word b (c ∷ bytes) h same = ap (λ d. d ∷ []) same
 
 -- ---- the answers
 

@@ -1,9 +1,10 @@
 //! Cuts a source into its pieces.
 
-ghost use Rattle.std.specs.Prelude.{◌≡◌, ◌+◌, ◌-◌, ◌^◌, ◌<◌, ◌≤◌, ◌≢◌, ◌++◌, List, length, IfOk, IfErr, OnOk, MatchResult, ◌⊎◌};
+ghost use Rattle.std.specs.Prelude.{◌≡◌, ◌+◌, ◌-◌, ◌^◌, ◌<◌, ◌≤◌, ◌≢◌, ◌++◌, List, [], ◌∷◌, length, IfOk, IfErr, OnOk, MatchResult, ◌⊎◌};
 ghost use Rattle.c_lexer.specs.Tokens.{Lexes, Refuses, LieWithin, HaveBytes};
 ghost use Rattle.c_lexer.specs.declared.token.Token.{Token};
 ghost use Rattle.c_lexer.specs.declared.token.LexRefusal.{LexRefusal};
+ghost use Rattle.c_lexer.specs.declared.piece.Piece.{Piece};
 ghost use Rattle.c_lexer.specs.Tokens as tokens;
 ghost use Rattle.c_lexer.specs.Scan as spec;
 
@@ -100,6 +101,23 @@ impl Place {
             is_first: first_after(self.is_first, piece, word),
         }
     }
+
+    /// The place behind a blank that lies here.
+    fn past_blank(self, b: u8) -> Place
+        requires short { self.at + 1 < 2 ^ 32 }
+        requires lines { self.line + 1 < 2 ^ 32 }
+        ensures at { result.at ≡ self.at + 1 }
+        ensures line { result.line ≡ self.line + tokens.line_feeds (b ∷ []) }
+        ensures first { result.is_first ≡ tokens.first_after self.is_first Piece.Blank (b ∷ []) }
+        ensures lines { result.line ≤ self.line + 1 }
+    {
+        let ends_line = is_line_feed(b);
+        Place {
+            at: self.at + 1,
+            line: if ends_line { self.line + 1 } else { self.line },
+            is_first: self.is_first || ends_line,
+        }
+    }
 }
 
 /// Keeps a piece that is a token.
@@ -142,6 +160,12 @@ pub fn tokens(alloc: Global, src: &[u8]) -> Result<Vec<Token>, LexRefusal>
         is_first: true,
     };
     while !rest.is_empty() {
+        let b = rest[0];
+        if is_blank(b) {
+            place = place.past_blank(b);
+            rest = rest.split_at(1).1;
+            continue;
+        }
         let (piece, len) = front(rest, place.is_first, place.at)?;
         let (word, after) = rest.split_at(len);
         let next = place.past(piece, word);

@@ -7,7 +7,7 @@ ghost use Rattle.std.specs.List.{prefix_len};
 
 use crate::bytes::{byte_at, continues_name};
 use crate::piece::Piece;
-use crate::token::{KEYWORDS, LexRefusal, PUNCTUATORS, TokenKind};
+use crate::token::{KEYWORDS, LexRefusal, TokenKind};
 
 fn name_len(bytes: &[u8]) -> usize
     ensures value { result ≡ prefix_len tokens.continues_name bytes.now }
@@ -77,27 +77,6 @@ pub fn name(bytes: &[u8]) -> (Piece, usize)
     (Piece::Lexeme(kind), len)
 }
 
-#[tactic(auto, unfolding(crate::specs::Tokens::punctuator_place))]
-fn punctuator_place(word: &[u8]) -> Option<u8>
-    ensures { result ≡ tokens.punctuator_place word.now }
-{
-    let place = place_in(&PUNCTUATORS, word)?;
-    Some(place as u8)
-}
-
-/// The punctuator of a length at the front.
-#[tactic(auto, unfolding(crate::specs::Scan::punctuator_of_length))]
-fn punctuator_of_length(bytes: &[u8], len: usize) -> Option<(u8, usize)>
-    ensures value { result ≡ spec.punctuator_of_length len bytes.now }
-    ensures within { IfSome result (λ found. (found.1 ≡ len) × (len ≤ length bytes.now)) }
-{
-    if len > bytes.len() {
-        return None;
-    }
-    let place = punctuator_place(&bytes[..len])?;
-    Some((place, len))
-}
-
 /// The place of the punctuator of one byte.
 #[tactic(auto, unfolding(crate::specs::Tokens::punctuator_place))]
 fn single_place(b: u8) -> Option<u8>
@@ -147,6 +126,94 @@ fn single(bytes: &[u8]) -> Option<(u8, usize)>
     }
 }
 
+/// The place of the punctuator of two bytes, of which the second is `=`.
+#[tactic(auto, unfolding(crate::specs::Tokens::punctuator_place))]
+fn equal_place(first: u8) -> Option<u8>
+    ensures { result ≡ tokens.punctuator_place (first ∷ 61 ∷ []) }
+{
+    match first {
+        b'<' => Some(22),
+        b'>' => Some(23),
+        b'=' => Some(24),
+        b'!' => Some(25),
+        b'*' => Some(35),
+        b'/' => Some(36),
+        b'%' => Some(37),
+        b'+' => Some(38),
+        b'-' => Some(39),
+        b'&' => Some(42),
+        b'^' => Some(43),
+        b'|' => Some(44),
+        _ => None,
+    }
+}
+
+/// The place of the punctuator of two bytes.
+#[tactic(auto, unfolding(crate::specs::Tokens::punctuator_place))]
+fn pair_place(first: u8, second: u8) -> Option<u8>
+    ensures { result ≡ tokens.punctuator_place (first ∷ second ∷ []) }
+{
+    match second {
+        b'=' => equal_place(first),
+        b'>' if first == b'-' => Some(7),
+        b'>' if first == b'>' => Some(19),
+        b'<' if first == b'<' => Some(18),
+        b'+' if first == b'+' => Some(8),
+        b'-' if first == b'-' => Some(9),
+        b'&' if first == b'&' => Some(28),
+        b'|' if first == b'|' => Some(29),
+        _ => None,
+    }
+}
+
+/// The place of the punctuator of three bytes.
+#[tactic(auto, unfolding(crate::specs::Tokens::punctuator_place))]
+fn triple_place(first: u8, second: u8, third: u8) -> Option<u8>
+    ensures { result ≡ tokens.punctuator_place (first ∷ second ∷ third ∷ []) }
+{
+    if first != second {
+        None
+    } else if first == b'.' && third == b'.' {
+        Some(33)
+    } else if first == b'<' && third == b'=' {
+        Some(40)
+    } else if first == b'>' && third == b'=' {
+        Some(41)
+    } else {
+        None
+    }
+}
+
+/// The punctuator of two bytes at the front.
+#[tactic(auto, unfolding(crate::specs::Scan::punctuator_of_length))]
+fn pair(bytes: &[u8]) -> Option<(u8, usize)>
+    ensures value { result ≡ spec.punctuator_of_length 2 bytes.now }
+    ensures within { IfSome result (λ found. (found.1 ≡ 2) × (2 ≤ length bytes.now)) }
+{
+    match bytes {
+        [first, second, ..] => {
+            let place = pair_place(*first, *second)?;
+            Some((place, 2))
+        }
+        _ => None,
+    }
+}
+
+/// The punctuator of three bytes at the front.
+#[tactic(auto, unfolding(crate::specs::Scan::punctuator_of_length))]
+fn triple(bytes: &[u8]) -> Option<(u8, usize)>
+    ensures value { result ≡ spec.punctuator_of_length 3 bytes.now }
+    ensures within { IfSome result (λ found. (found.1 ≡ 3) × (3 ≤ length bytes.now)) }
+{
+    match bytes {
+        [first, second, third, ..] => {
+            let place = triple_place(*first, *second, *third)?;
+            Some((place, 3))
+        }
+        _ => None,
+    }
+}
+
 /// Whether a byte is the second of a punctuator.
 fn is_second(b: u8) -> bool
     ensures { result ≡ spec.is_second b }
@@ -163,10 +230,10 @@ fn punctuator(bytes: &[u8]) -> Option<(u8, usize)>
     if !is_second(byte_at(bytes, 1)) {
         return single(bytes);
     }
-    if let Some(found) = punctuator_of_length(bytes, 3) {
+    if let Some(found) = triple(bytes) {
         return Some(found);
     }
-    if let Some(found) = punctuator_of_length(bytes, 2) {
+    if let Some(found) = pair(bytes) {
         return Some(found);
     }
     single(bytes)

@@ -10,5 +10,5 @@ use Rattle.c_expr.proofs.grammar.Grammar.suffixes.Goals as goal
 pub loop-turn-preserved : goal.loop-turn-preserved
 loop-turn-preserved g c =
     grown_turn (begins suffix_starts) push (at_depth reading.suffix c.args.self.now.src.now c.args.self.now.depth) _ _ _ _ _ _ _
-    (omega arith) (search rules) c.in_ok-next.ensures c.in_ok-push.ensures.ok
+    (omega arith) (search rules) c.in_ok-next.ensures c.in_ok-longer.ensures
     ∙ c.loop-turn.invariant
