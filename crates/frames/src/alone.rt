@@ -1,9 +1,13 @@
-ghost use Rattle.std.specs.Prelude.{◌≡◌, ◌+◌, ◌-◌, ◌==◌, ◌^◌, ◌<◌, length, slice_set, Some, None, if◌then◌else◌};
+ghost use Rattle.std.specs.Prelude.{◌≡◌, ◌+◌, ◌-◌, ◌==◌, ◌^◌, ◌<◌, length, slice_set, All, Some, None, if◌then◌else◌};
+ghost use Rattle.srmt_base.specs.Memory.{write_of};
 ghost use Rattle.mid_code.specs.Valid.{IsValid};
-ghost use Rattle.frames.specs.Alone.{Names, HasStepped, IsSetIf, jumped, IsWithinCode, ComesAlone};
+ghost use Rattle.mid_code.specs.Fits.{IsValue};
+ghost use Rattle.frames.specs.Alone.{Names, HasStepped, HasPassed, IsSetIf, IsWrittenIf, jumped, IsWithinCode, ComesAlone};
 
+use crate::memory::Memory;
+use crate::operators::apply;
 use mid_code::{Mid, MidProgram};
-use srmt_base::{Trap, arith, convert, pointer_comparison, pointer_difference, pointer_sum};
+use srmt_base::{Trap, convert, pointer_comparison, pointer_difference, pointer_sum};
 
 /// Where an activation stands.
 #[derive(Clone, Copy, Debug)]
@@ -14,16 +18,19 @@ pub(crate) struct Stand {
     pub(crate) turns: u64,
 }
 
-/// Goes on in a function's code while its instructions need the registers, the place and turns alone.
+/// Goes on in a function's code while its instructions need the registers, the place, turns and cells
+/// alone.
+#[inline(never)]
 pub(crate) fn run_code(
     program: &MidProgram,
     number: u16,
     registers: &mut [u64],
+    memory: &mut Memory,
     stand: Stand,
 ) -> Stand
     requires valid { IsValid program.now }
     requires within { IsWithinCode program.now number stand.place registers.old }
-    ensures comes { ComesAlone program.now number registers.old stand registers.new result }
+    ensures comes { ComesAlone program.now number registers.old memory.old stand registers.new memory.new result }
     ensures within { IsWithinCode program.now number result.place registers.new }
     ensures count { length registers.new ≡ length registers.old }
 {
@@ -33,10 +40,62 @@ pub(crate) fn run_code(
     let code = function.code.as_slice();
     let mut stand = stand;
     loop {
-        match go_on(registers, stand, &code[stand.place as usize].mid) {
+        match pass(registers, memory, stand, &code[stand.place as usize].mid) {
             Some(next) => stand = next,
             None => return stand,
         }
+    }
+}
+
+/// Performs an instruction that needs the registers, the place, turns and cells alone, and does not
+/// trap. `None` where it is another one.
+#[inline(always)]
+fn pass(registers: &mut [u64], memory: &mut Memory, stand: Stand, mid: &Mid) -> Option<Stand>
+    requires place { stand.place + 1 < 2 ^ 32 }
+    requires names { Names mid.now (length registers.old) }
+    requires small { All IsValue registers.old }
+    ensures { HasPassed mid.now registers.old memory.old stand registers.new memory.new result }
+{
+    match go_on(registers, stand, mid) {
+        Some(next) => Some(next),
+        None => access(registers, memory, stand, mid),
+    }
+}
+
+/// Performs a read or a write of a cell that does not trap. `None` where it is another instruction.
+#[inline(always)]
+fn access(registers: &mut [u64], memory: &mut Memory, stand: Stand, mid: &Mid) -> Option<Stand>
+    requires place { stand.place + 1 < 2 ^ 32 }
+    requires names { Names mid.now (length registers.old) }
+    requires small { All IsValue registers.old }
+    ensures { HasPassed mid.now registers.old memory.old stand registers.new memory.new result }
+{
+    match *mid {
+        Mid::Load { target, pointer } => {
+            let outcome = memory.load(registers[usize::from(pointer)]);
+            set_if(registers, stand, target, outcome)
+        }
+        Mid::Store { pointer, source } => {
+            let value = registers[usize::from(source)];
+            write(memory, stand, registers[usize::from(pointer)], value)
+        }
+        _ => None,
+    }
+}
+
+/// Writes a cell, unless that is a trap.
+#[inline(always)]
+fn write(memory: &mut Memory, stand: Stand, pointer: u64, value: u64) -> Option<Stand>
+    requires place { stand.place + 1 < 2 ^ 32 }
+    requires small { IsValue value }
+    ensures { IsWrittenIf (write_of memory.old pointer value) memory.old stand memory.new result }
+{
+    match memory.put(pointer, value) {
+        Ok(()) => Some(Stand {
+            place: stand.place + 1,
+            turns: stand.turns,
+        }),
+        Err(_) => None,
     }
 }
 
@@ -61,7 +120,7 @@ pub(crate) fn go_on(registers: &mut [u64], stand: Stand, mid: &Mid) -> Option<St
             left,
             right,
         } => {
-            let outcome = arith(
+            let outcome = apply(
                 op,
                 ty,
                 registers[usize::from(left)],
@@ -183,11 +242,17 @@ fn jump(stand: Stand, taken: bool, place: u32) -> Option<Stand>
     requires { stand.place + 1 < 2 ^ 32 }
     ensures { result ≡ Some (jumped taken place stand) }
 {
-    let next = if taken { place } else { stand.place + 1 };
-    Some(Stand {
-        place: next,
-        turns: stand.turns,
-    })
+    if taken {
+        Some(Stand {
+            place,
+            turns: stand.turns,
+        })
+    } else {
+        Some(Stand {
+            place: stand.place + 1,
+            turns: stand.turns,
+        })
+    }
 }
 
 /// Counts a turn, if one is left.

@@ -14,6 +14,7 @@ ghost use Rattle.frames.specs.Copied.{CanCopyAll, CopiesNone, CopiesMany, IsHeld
 use crate::alone::{Stand, run_code};
 use crate::copied::{Run, run_copied};
 use crate::entry::part_of;
+use crate::memory::Memory;
 use mid_code::{MidProgram, Pair, Registers};
 use srmt_base::{Args, Budget, Budgets, Part, Side};
 use std::alloc::{AllocError, Global};
@@ -329,12 +330,12 @@ impl Frames {
         self.top = caller;
     }
 
-    /// Goes on while the instructions of the newest activation need its registers, its place and the
-    /// turns of its part alone.
-    pub fn run_alone(&mut self, program: &MidProgram)
+    /// Goes on while the instructions of the newest activation need its registers, its place, the
+    /// turns of its part and cells of memory alone.
+    pub fn run_alone(&mut self, program: &MidProgram, memory: &mut Memory)
         requires valid { IsValid program.now }
         requires within { IsWithin program.now self.old.machine.top }
-        ensures comes { (s : State) → s.machine ≡ self.old.machine → Comes program.now s [] (record s { machine = self.new.machine }) }
+        ensures comes { (s : State) → s.machine ≡ self.old.machine → s.memory ≡ memory.old → Comes program.now s [] (record s { machine = self.new.machine; memory = memory.new }) }
         ensures room { self.new.room ≡ self.old.room }
     {
         let part = part_of(program, self.top.function);
@@ -344,7 +345,8 @@ impl Frames {
             turns: left.turns,
         };
         let base = self.top.base as usize;
-        let end = run_row(program, self.top.function, &mut self.registers, base, stand);
+        let function = self.top.function;
+        let end = run_row(program, function, &mut self.registers, base, memory, stand);
         self.top.place = end.place;
         let left = Budget {
             turns: end.turns,
@@ -402,6 +404,7 @@ fn run_row(
     number: u16,
     registers: &mut Vec<u64>,
     base: usize,
+    memory: &mut Memory,
     stand: Stand,
 ) -> Stand
     requires valid { IsValid program.now }
@@ -410,10 +413,10 @@ fn run_row(
     ensures before { take base registers.new.items ≡ take base registers.old.items }
     ensures count { length registers.new.items ≡ length registers.old.items }
     ensures capacity { vec_capacity registers.new ≡ vec_capacity registers.old }
-    ensures comes { ComesAlone program.now number (drop base registers.old.items) stand (drop base registers.new.items) result }
+    ensures comes { ComesAlone program.now number (drop base registers.old.items) memory.old stand (drop base registers.new.items) memory.new result }
     ensures within { IsWithinCode program.now number result.place (drop base registers.new.items) }
 {
-    run_code(program, number, &mut registers[base..], stand)
+    run_code(program, number, &mut registers[base..], memory, stand)
 }
 
 /// Performs copied instructions so with the registers of an activation from a place of the row on.

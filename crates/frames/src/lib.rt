@@ -14,6 +14,7 @@ mod entry;
 mod frames;
 mod input;
 mod memory;
+mod operators;
 mod running;
 mod statics;
 mod wants;

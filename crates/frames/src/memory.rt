@@ -35,6 +35,7 @@ impl Memory {
     }
 
     /// The value of a cell.
+    #[inline(always)]
     pub fn load(&self, pointer: u64) -> Result<u64, Trap>
         ensures value { result ≡ read_of self.now pointer }
         ensures small { IfOk result IsValue }
@@ -47,6 +48,7 @@ impl Memory {
     }
 
     /// Writes a cell.
+    #[inline(always)]
     pub fn put(&mut self, pointer: u64, value: u64) -> Result<(), Trap>
         requires { IsValue value }
         ensures ok { OnOk result (write_of self.old pointer value ≡ Ok self.new) }

@@ -138,14 +138,15 @@ impl MidRun {
         }
     }
 
-    /// Makes steps while the instructions need the newest activation and its turns alone.
+    /// Makes steps while the instructions need the newest activation, its turns and cells alone.
     fn advance(&mut self, program: &MidProgram)
         requires valid { IsValid program.now }
         requires fits { FitsIn program.now self.old }
         ensures runs { Runs program.now self.old [] self.new }
     {
         if self.over.is_none() {
-            self.running.frames.run_alone(program);
+            let running = &mut self.running;
+            running.frames.run_alone(program, &mut running.memory);
         }
     }
 }

@@ -8,7 +8,7 @@ use Rattle.frames.proofs.alone.run_code.Given as goal
 abbrev pub invariant-loop-next : goal.invariant-loop-next
 invariant-loop-next l = record {
   within : IsWithinCode l.program l.number l.stand.place l.registers;
-  comes : (s : State) → s.machine.top.function ≡ l.number → Comes l.program (state_at l.program s l.fn.registers l.fn.stand) [] (state_at l.program s l.registers l.stand);
+  comes : (s : State) → s.machine.top.function ≡ l.number → Comes l.program (state_at l.program s l.fn.registers l.fn.memory l.fn.stand) [] (state_at l.program s l.registers l.memory l.stand);
 }
 
 abbrev pub decreases-loop-next : goal.decreases-loop-next

@@ -20,7 +20,7 @@ invariant_of-self c =
     c.run_row-end.ensures.count c.run_row-end.ensures.before c.run_row-end.ensures.within.1.each depth c.run_row-end.ensures.capacity
 
 pub returns-clause-comes : goal.returns-clause-comes
-returns-clause-comes c s is =
+returns-clause-comes c s is cells =
     let a = c.self.inside in
     let k = c.self.invariant in
     let rs2 = c.run_row-end.new.registers.items in
@@ -28,5 +28,5 @@ returns-clause-comes c s is =
     let here : m ≡ s.machine = ap (λ (x : Kept). x.machine) c.self.view_is ∙ sym is in
     let own = own_registers a.registers.items a.objects.items a.top a.below.items k.laid in
     let rows = ran-rows a.registers.items rs2 a.objects.items a.top a.below.items a.budgets c.with-self-inside.result c.run_row-end.result.place k.laid c.run_row-end.ensures.count c.run_row-end.ensures.before in
-    comes_whole c.args.program.now s m (drop a.top.base a.registers.items) (drop a.top.base rs2) c.run_row-end.result c.part_of-part.result c.of-left.result c.with-self-inside.result _ here
+    comes_whole c.args.program.now s m c.args.memory.now c.run_row-end.new.memory (drop a.top.base a.registers.items) (drop a.top.base rs2) c.run_row-end.result c.part_of-part.result c.of-left.result c.with-self-inside.result _ here (sym cells)
     c.part_of-part.ensures c.of-left.ensures own c.with-self-inside.ensures rows c.run_row-end.ensures.comes
