@@ -2,7 +2,6 @@
 use Rattle.std.proofs.Common.{◌≡◌, ℕ, zero, suc, ◌+◌, ◌-◌, ◌*◌, ◌^◌, ◌<◌, ◌≤◌, List, [], ◌∷◌, ◌++◌, length, Option, Some, None, slice_get, option_and_then, refl, sym, ap, ◌∙◌, subst, arith, inl, inr}
 use Rattle.std.proofs.lemmas.Bool.{cases_lt}
 use Rattle.srmt_base.specs.declared.event.Event.{Event}
-use Rattle.srmt_base.specs.declared.limits.Limits.{Limits}
 use Rattle.srmt_base.specs.declared.side.Side.{Side}
 use Rattle.srmt_base.specs.declared.side.Side.TheVariants.{Lead, Trail}
 use Rattle.mid_code.specs.Classes.{SharedProgram}
@@ -11,6 +10,7 @@ use Rattle.mid_code.specs.declared.version.VersionLine.{VersionLine}
 use Rattle.mid_code.specs.Pairs.{HasSites}
 use Rattle.world.specs.Standing.{started_standing}
 use Rattle.mid_code.proofs.Values.{one_within}
+use Rattle.world.specs.World.{Setting}
 use Rattle.machine.specs.Side.{SideState, Plain, Outcome, Went, Ended}
 use Rattle.machine.specs.Steps.{versions_of, side_op, takes_at}
 use Rattle.machine.specs.Meets.{next_of, CanMeet}
@@ -40,40 +40,40 @@ trail_sum a b n l r k bound e less c = omega arith
 more_words : (w a n : ℕ) → w ≤ 18 * a → n ≤ 18 → w + n ≤ 18 * (a + 1)
 more_words w a n h few = omega arith
 
-module _ (program : SharedProgram) (input : List ℕ) (limits : Limits) (sites : HasSites program) (duo : DuoState) (events : List Event) (g : Good program input limits duo events) (c : Counted program duo) where
-  lead_counted : (s : SideState) → duo.lead ≡ Went s → (f : Finds) → IsFound (takes_at (side_op Lead program s)) (length (next_of Lead program s duo.world Plain).events) (view_of Lead duo) f → Counted program (turn_found f Lead program s duo).state
+module _ (setting : Setting) (sites : HasSites setting.program) (duo : DuoState) (events : List Event) (g : Good setting duo events) (c : Counted setting.program duo) where
+  lead_counted : (s : SideState) → duo.lead ≡ Went s → (f : Finds) → IsFound (takes_at (side_op Lead setting.program s)) (length (next_of Lead setting.program s duo.world Plain).events) (view_of Lead duo) f → Counted setting.program (turn_found f Lead setting.program s duo).state
   lead_counted s at Waits h = c
   lead_counted s at (Meets meet left) h =
-      let own = lead_lowers program input limits sites g.i g.lead s (sym g.is_lead ∙ at) meet g.lead_at (subst (λ w. CanMeet Lead program s w meet) g.is_world h.0) (lead_meets program input limits sites duo events g s at meet left h.0 h.1 h.2) in
-      let lower : LowerBy program Lead s (next_of Lead program s duo.world meet) = subst (λ w. LowerBy program Lead s (next_of Lead program s w meet)) (sym g.is_world) own in
+      let own = lead_lowers setting sites g.i g.lead s (sym g.is_lead ∙ at) meet g.lead_at (subst (λ w. CanMeet Lead setting.program s w meet) g.is_world h.0) (lead_meets setting sites duo events g s at meet left h.0 h.1 h.2) in
+      let lower : LowerBy setting.program Lead s (next_of Lead setting.program s duo.world meet) = subst (λ w. LowerBy setting.program Lead s (next_of Lead setting.program s w meet)) (sym g.is_world) own in
       record {
-        steps = lead_sum duo.lead_steps duo.trail_steps _ _ (side_left program Trail duo.trail) _ step_bound (ap (side_left program Lead) at) lower.less c.steps;
+        steps = lead_sum duo.lead_steps duo.trail_steps _ _ (side_left setting.program Trail duo.trail) _ step_bound (ap (side_left setting.program Lead) at) lower.less c.steps;
         words = more_words duo.words_sent duo.lead_steps _ c.words lower.few;
         acks = c.acks;
       }
 
-  trail_counted : (s : SideState) → duo.trail ≡ Went s → (f : Finds) → IsFound (takes_at (side_op Trail program s)) (length (next_of Trail program s duo.world Plain).events) (view_of Trail duo) f → Counted program (turn_found f Trail program s duo).state
+  trail_counted : (s : SideState) → duo.trail ≡ Went s → (f : Finds) → IsFound (takes_at (side_op Trail setting.program s)) (length (next_of Trail setting.program s duo.world Plain).events) (view_of Trail duo) f → Counted setting.program (turn_found f Trail setting.program s duo).state
   trail_counted s at Waits h = c
   trail_counted s at (Meets meet left) h =
-      let own = trail_lowers program input limits sites g.j g.trail s (sym g.is_trail ∙ at) meet (Quits g.lead) g.trail_at (can_trail program input limits sites duo events g s at meet left h.0 h.1 h.2) (trail_meets program input limits sites duo events g s at meet left h.0 h.1 h.2) in
-      let same = alike program s duo.world g.trail.world meet in
-      let less : side_left program Trail (next_of Trail program s duo.world meet).outcome < side_left program Trail (Went s) = subst (λ o. side_left program Trail o < side_left program Trail (Went s)) (sym same.outcome) own.less in
-      let few : length (next_of Trail program s duo.world meet).sent ≤ 18 = subst (λ t. length t ≤ 18) (sym same.sent) own.few in
+      let own = trail_lowers setting sites g.j g.trail s (sym g.is_trail ∙ at) meet (Quits g.lead) g.trail_at (can_trail setting sites duo events g s at meet left h.0 h.1 h.2) (trail_meets setting sites duo events g s at meet left h.0 h.1 h.2) in
+      let same = alike setting.program s duo.world g.trail.world meet in
+      let less : side_left setting.program Trail (next_of Trail setting.program s duo.world meet).outcome < side_left setting.program Trail (Went s) = subst (λ o. side_left setting.program Trail o < side_left setting.program Trail (Went s)) (sym same.outcome) own.less in
+      let few : length (next_of Trail setting.program s duo.world meet).sent ≤ 18 = subst (λ t. length t ≤ 18) (sym same.sent) own.few in
       record {
-        steps = trail_sum duo.lead_steps duo.trail_steps _ (side_left program Lead duo.lead) _ _ step_bound (ap (side_left program Trail) at) less c.steps;
+        steps = trail_sum duo.lead_steps duo.trail_steps _ (side_left setting.program Lead duo.lead) _ _ step_bound (ap (side_left setting.program Trail) at) less c.steps;
         words = c.words;
         acks = more_words duo.acks_sent duo.trail_steps _ c.acks few;
       }
 
-  lead_turned : (fails : Option ℕ) (o : Outcome) → duo.lead ≡ o → Counted program (turn_at o Lead program fails duo).state
-  lead_turned fails (Went s) at = lead_counted s at (finds Lead program s duo.world fails (view_of Lead duo)) (found Lead program s duo.world fails (view_of Lead duo))
+  lead_turned : (fails : Option ℕ) (o : Outcome) → duo.lead ≡ o → Counted setting.program (turn_at o Lead setting.program fails duo).state
+  lead_turned fails (Went s) at = lead_counted s at (finds Lead setting.program s duo.world fails (view_of Lead duo)) (found Lead setting.program s duo.world fails (view_of Lead duo))
   lead_turned fails (Ended end) at = c
 
-  trail_turned : (fails : Option ℕ) (o : Outcome) → duo.trail ≡ o → Counted program (turn_at o Trail program fails duo).state
-  trail_turned fails (Went s) at = trail_counted s at (finds Trail program s duo.world fails (view_of Trail duo)) (found Trail program s duo.world fails (view_of Trail duo))
+  trail_turned : (fails : Option ℕ) (o : Outcome) → duo.trail ≡ o → Counted setting.program (turn_at o Trail setting.program fails duo).state
+  trail_turned fails (Went s) at = trail_counted s at (finds Trail setting.program s duo.world fails (view_of Trail duo)) (found Trail setting.program s duo.world fails (view_of Trail duo))
   trail_turned fails (Ended end) at = c
 
-  turn_counted : (side : Side) (fails : Option ℕ) → Counted program (turn_of program no_upsets side fails duo).state
+  turn_counted : (side : Side) (fails : Option ℕ) → Counted setting.program (turn_of setting.program no_upsets side fails duo).state
   turn_counted Lead fails = lead_turned fails duo.lead refl
   turn_counted Trail fails = trail_turned fails duo.trail refl
 
@@ -95,23 +95,23 @@ module _ (side : Side) (program : SharedProgram) (sites : HasSites program) wher
   short_version (suc before) =
       short_one (suc before) (slice_get (versions_of side program) before) (λ place l at. (placed side program (suc before) place l sites at).small)
 
-module _ (program : SharedProgram) (input : List ℕ) (limits : Limits) (sites : HasSites program) where
-  counted_opening : Counted program (opening_duo program input limits)
+module _ (setting : Setting) (sites : HasSites setting.program) where
+  counted_opening : Counted setting.program (opening_duo setting)
   counted_opening = record {
-    steps = omega (arith, short_version Lead program sites (started_standing program.program limits).machine.top.function, short_version Trail program sites (started_standing program.program limits).machine.top.function);
+    steps = omega (arith, short_version Lead setting.program sites (started_standing setting.program.program setting.limits).machine.top.function, short_version Trail setting.program sites (started_standing setting.program.program setting.limits).machine.top.function);
     words = omega arith;
     acks = omega arith;
   }
 
-  counted_run : (entries : List Entry) (sofar : Scheduled) → Good program input limits sofar.duo sofar.events → Counted program sofar.duo → Counted program (run_on program no_upsets sofar entries).duo
+  counted_run : (entries : List Entry) (sofar : Scheduled) → Good setting sofar.duo sofar.events → Counted setting.program sofar.duo → Counted setting.program (run_on setting.program no_upsets sofar entries).duo
   counted_run [] sofar g c = c
   counted_run (entry ∷ entries) sofar g c =
-      counted_run entries (record { duo = (turn_of program no_upsets entry.side entry.fails sofar.duo).state; events = sofar.events ++ (turn_of program no_upsets entry.side entry.fails sofar.duo).events })
-      (good_turn program input limits sites sofar.duo sofar.events g entry.side entry.fails)
-      (turn_counted program input limits sites sofar.duo sofar.events g c entry.side entry.fails)
+      counted_run entries (record { duo = (turn_of setting.program no_upsets entry.side entry.fails sofar.duo).state; events = sofar.events ++ (turn_of setting.program no_upsets entry.side entry.fails sofar.duo).events })
+      (good_turn setting sites sofar.duo sofar.events g entry.side entry.fails)
+      (turn_counted setting sites sofar.duo sofar.events g c entry.side entry.fails)
 
-  pub counted_scheduled : (entries : List Entry) → Counted program (scheduled program input limits no_upsets entries).duo
-  counted_scheduled entries = counted_run entries (record { duo = opening_duo program input limits; events = [] }) (good_opening program input limits sites) counted_opening
+  pub counted_scheduled : (entries : List Entry) → Counted setting.program (scheduled setting no_upsets entries).duo
+  counted_scheduled entries = counted_run entries (record { duo = opening_duo setting; events = [] }) (good_opening setting sites) counted_opening
 
-  pub counted_reached : (duo : DuoState) (events : List Event) → Reached program input limits no_upsets duo events → Counted program duo
-  counted_reached duo events reached = subst (λ x. Counted program x.duo) reached.1 (counted_scheduled reached.0)
+  pub counted_reached : (duo : DuoState) (events : List Event) → Reached setting no_upsets duo events → Counted setting.program duo
+  counted_reached duo events reached = subst (λ x. Counted setting.program x.duo) reached.1 (counted_scheduled reached.0)

@@ -1,6 +1,5 @@
 -- The leading side ends by a fault of the outlet only where the outlet fails.
 use Rattle.std.proofs.Common.{◌≡◌, ◌≢◌, ℕ, Bool, true, false, List, [], ◌∷◌, ◌++◌, Option, Some, None, refl, sym, ap, ◌∙◌, subst}
-use Rattle.srmt_base.specs.declared.limits.Limits.{Limits}
 use Rattle.srmt_base.specs.declared.side.Side.{Side}
 use Rattle.srmt_base.specs.declared.side.Side.TheVariants.{Lead, Trail}
 use Rattle.mid_code.specs.Classes.{SharedProgram}
@@ -13,7 +12,7 @@ use Rattle.word_stream.specs.declared.request.Request.{Request}
 use Rattle.word_stream.specs.declared.request.Request.TheVariants.{Put, Exit}
 use Rattle.word_stream.specs.declared.request.Response.{Response}
 use Rattle.word_stream.specs.Exchange.{ack_words}
-use Rattle.world.specs.World.{WorldState, Asked, ask}
+use Rattle.world.specs.World.{WorldState, Asked, ask, Setting}
 use Rattle.verdicts.specs.declared.thread_end.ThreadEnd.TheVariants.{WriteFault}
 use Rattle.machine.specs.Side.{SideState, Meet, Plain, Got, Closed, Failed, Outcome, Went, Ended}
 use Rattle.machine.specs.Steps.{side_op, takes_at, may_send_at, operands, wanted, performed}
@@ -104,5 +103,5 @@ no_fault_run program (entry ∷ entries) sofar none clean =
     no_fault_run program entries (record { duo = (turn_of program no_upsets entry.side entry.fails sofar.duo).state; events = sofar.events ++ (turn_of program no_upsets entry.side entry.fails sofar.duo).events }) none.1
     (subst (λ f. (turn_of program no_upsets entry.side f sofar.duo).state.lead ≢ Ended WriteFault) (sym none.0) (turn_clean program sofar.duo clean entry.side))
 
-pub no_fault_scheduled : (program : SharedProgram) (input : List ℕ) (limits : Limits) (entries : List Entry) → NoneFails entries → (scheduled program input limits no_upsets entries).duo.lead ≢ Ended WriteFault
-no_fault_scheduled program input limits entries none = no_fault_run program entries (record { duo = opening_duo program input limits; events = [] }) none (λ h. cc)
+pub no_fault_scheduled : (setting : Setting) (entries : List Entry) → NoneFails entries → (scheduled setting no_upsets entries).duo.lead ≢ Ended WriteFault
+no_fault_scheduled setting entries none = no_fault_run setting.program entries (record { duo = opening_duo setting; events = [] }) none (λ h. cc)

@@ -2,7 +2,6 @@
 use Rattle.std.proofs.Common.{◌≡◌, ℕ, zero, suc, ◌+◌, ◌-◌, ◌≤◌, true, List, [], ◌++◌, length, refl, sym, ap, ◌∙◌, subst, arith, inl, inr, length-append, append-nil}
 use Rattle.std.proofs.lemmas.Bool.{cases_lt}
 use Rattle.srmt_base.specs.declared.event.Event.{Event}
-use Rattle.srmt_base.specs.declared.limits.Limits.{Limits}
 use Rattle.srmt_base.specs.declared.trap.SourceEnd.{SourceEnd}
 use Rattle.mid_code.specs.Classes.{SharedProgram}
 use Rattle.world.specs.Standing.{Standing}
@@ -10,7 +9,7 @@ use Rattle.mid_code.specs.Pairs.{HasSites}
 use Rattle.word_stream.specs.declared.request.Request.{Request}
 use Rattle.word_stream.specs.declared.request.Response.{Response}
 use Rattle.word_stream.specs.Exchange.{is_guarded, response_words, checks_of, acks_of}
-use Rattle.world.specs.World.{ask}
+use Rattle.world.specs.World.{ask, Setting}
 use Rattle.world.specs.Requests.{Wants, Runs, Dies, Requests, Lost, wants, Resumed, Back, Over, resume}
 use Rattle.world.specs.Ideal.{Place, Here, Owed, Ended, IdealState, place_by, words_owed, requested, here_next, owed_next, next_by, ideal_next, ideal}
 use Rattle.pair_core.specs.Fit.{IsPrefix}
@@ -136,61 +135,61 @@ module _ (program : SharedProgram) (c : IdealState) where
   pub fits_next : PlaceFits program c.place → PlaceFits program (ideal_next program c).place
   fits_next fits = fits_at c.place refl fits
 
-module _ (program : SharedProgram) (input : List ℕ) (limits : Limits) (sites : HasSites program) where
-  pub fits_point : (i : ℕ) → PlaceFits program (ideal program input limits i).place
-  fits_point zero = stands_started program limits sites
-  fits_point (suc i) = fits_next program (ideal program input limits i) (fits_point i)
+module _ (setting : Setting) (sites : HasSites setting.program) where
+  pub fits_point : (i : ℕ) → PlaceFits setting.program (ideal setting i).place
+  fits_point zero = stands_started setting.program setting.limits sites
+  fits_point (suc i) = fits_next setting.program (ideal setting i) (fits_point i)
 
-  pub stands_point : (i : ℕ) (m : Standing) → (ideal program input limits i).place ≡ Here m → Stands program m
-  stands_point i m here = subst (PlaceFits program) here (fits_point i)
+  pub stands_point : (i : ℕ) (m : Standing) → (ideal setting i).place ≡ Here m → Stands setting.program m
+  stands_point i m here = subst (PlaceFits setting.program) here (fits_point i)
 
-  pub stands_owed : (i : ℕ) (m : Standing) (r : Response) → (ideal program input limits i).place ≡ Owed m r → Stands program m
-  stands_owed i m r owed = let fits : PlaceFits program (Owed m r) = subst (PlaceFits program) owed (fits_point i) in fits.0
+  pub stands_owed : (i : ℕ) (m : Standing) (r : Response) → (ideal setting i).place ≡ Owed m r → Stands setting.program m
+  stands_owed i m r owed = let fits : PlaceFits setting.program (Owed m r) = subst (PlaceFits setting.program) owed (fits_point i) in fits.0
 
   -- after a request was checked
-  pub asked_words : (i : ℕ) (m : Standing) (q : Request) → (ideal program input limits i).place ≡ Here m → wants program m ≡ Requests q → (ideal program input limits (suc i)).words ≡ (ideal program input limits i).words ++ checks_of q
-  asked_words i m q here h = ap (λ d. d.words) (next_asks program (ideal program input limits i) m q here (stands_point i m here) h)
+  pub asked_words : (i : ℕ) (m : Standing) (q : Request) → (ideal setting i).place ≡ Here m → wants setting.program m ≡ Requests q → (ideal setting (suc i)).words ≡ (ideal setting i).words ++ checks_of q
+  asked_words i m q here h = ap (λ d. d.words) (next_asks setting.program (ideal setting i) m q here (stands_point i m here) h)
 
-  pub asked_echoes : (i : ℕ) (m : Standing) (q : Request) → (ideal program input limits i).place ≡ Here m → wants program m ≡ Requests q → (ideal program input limits (suc i)).echoes ≡ (ideal program input limits i).echoes ++ acks_of q
-  asked_echoes i m q here h = ap (λ d. d.echoes) (next_asks program (ideal program input limits i) m q here (stands_point i m here) h)
+  pub asked_echoes : (i : ℕ) (m : Standing) (q : Request) → (ideal setting i).place ≡ Here m → wants setting.program m ≡ Requests q → (ideal setting (suc i)).echoes ≡ (ideal setting i).echoes ++ acks_of q
+  asked_echoes i m q here h = ap (λ d. d.echoes) (next_asks setting.program (ideal setting i) m q here (stands_point i m here) h)
 
-  pub asked_events : (i : ℕ) (m : Standing) (q : Request) → (ideal program input limits i).place ≡ Here m → wants program m ≡ Requests q → (ideal program input limits (suc i)).events ≡ (ideal program input limits i).events ++ (ask (ideal program input limits i).world q).events
-  asked_events i m q here h = ap (λ d. d.events) (next_asks program (ideal program input limits i) m q here (stands_point i m here) h)
+  pub asked_events : (i : ℕ) (m : Standing) (q : Request) → (ideal setting i).place ≡ Here m → wants setting.program m ≡ Requests q → (ideal setting (suc i)).events ≡ (ideal setting i).events ++ (ask (ideal setting i).world q).events
+  asked_events i m q here h = ap (λ d. d.events) (next_asks setting.program (ideal setting i) m q here (stands_point i m here) h)
 
-  grows_by : (k i : ℕ) → Grows (ideal program input limits i) (ideal program input limits (k + i))
-  grows_by zero i = let e : i ≡ zero + i = omega arith in subst (λ x. Grows (ideal program input limits i) (ideal program input limits x)) e (grows_none (ideal program input limits i))
+  grows_by : (k i : ℕ) → Grows (ideal setting i) (ideal setting (k + i))
+  grows_by zero i = let e : i ≡ zero + i = omega arith in subst (λ x. Grows (ideal setting i) (ideal setting x)) e (grows_none (ideal setting i))
   grows_by (suc k) i =
       let e : suc (k + i) ≡ suc k + i = omega arith in
-      subst (λ x. Grows (ideal program input limits i) (ideal program input limits x)) e
-      (grows_on (ideal program input limits i) (ideal program input limits (k + i)) (ideal program input limits (suc (k + i))) (grows_by k i) (grows_next program (ideal program input limits (k + i)) (fits_point (k + i))))
+      subst (λ x. Grows (ideal setting i) (ideal setting x)) e
+      (grows_on (ideal setting i) (ideal setting (k + i)) (ideal setting (suc (k + i))) (grows_by k i) (grows_next setting.program (ideal setting (k + i)) (fits_point (k + i))))
 
-  pub grows : (i j : ℕ) → i ≤ j → Grows (ideal program input limits i) (ideal program input limits j)
+  pub grows : (i j : ℕ) → i ≤ j → Grows (ideal setting i) (ideal setting j)
   grows i j h =
       let e : (j - i) + i ≡ j = omega arith in
-      subst (λ x. Grows (ideal program input limits i) (ideal program input limits x)) e (grows_by (j - i) i)
+      subst (λ x. Grows (ideal setting i) (ideal setting x)) e (grows_by (j - i) i)
 
-  ended_by : (k i : ℕ) (end : SourceEnd) → (ideal program input limits i).place ≡ Ended end → ideal program input limits (k + i) ≡ ideal program input limits i
-  ended_by zero i end ended = let e : zero + i ≡ i = omega arith in ap (ideal program input limits) e
+  ended_by : (k i : ℕ) (end : SourceEnd) → (ideal setting i).place ≡ Ended end → ideal setting (k + i) ≡ ideal setting i
+  ended_by zero i end ended = let e : zero + i ≡ i = omega arith in ap (ideal setting) e
   ended_by (suc k) i end ended =
       let e : suc k + i ≡ suc (k + i) = omega arith in
-      ap (ideal program input limits) e ∙ ap (ideal_next program) (ended_by k i end ended) ∙ next_ended program (ideal program input limits i) end ended
+      ap (ideal setting) e ∙ ap (ideal_next setting.program) (ended_by k i end ended) ∙ next_ended setting.program (ideal setting i) end ended
 
   -- nothing changes behind the end
-  pub end_stays : (i j : ℕ) (end : SourceEnd) → (ideal program input limits i).place ≡ Ended end → i ≤ j → ideal program input limits j ≡ ideal program input limits i
+  pub end_stays : (i j : ℕ) (end : SourceEnd) → (ideal setting i).place ≡ Ended end → i ≤ j → ideal setting j ≡ ideal setting i
   end_stays i j end ended h =
       let e : j ≡ (j - i) + i = omega arith in
-      ap (ideal program input limits) e ∙ ended_by (j - i) i end ended
+      ap (ideal setting) e ∙ ended_by (j - i) i end ended
 
-  pub below_end : (i k : ℕ) (end : SourceEnd) → (ideal program input limits i).place ≡ Ended end → Grows (ideal program input limits k) (ideal program input limits i)
+  pub below_end : (i k : ℕ) (end : SourceEnd) → (ideal setting i).place ≡ Ended end → Grows (ideal setting k) (ideal setting i)
   below_end i k end ended =
-      elim (cases_lt k i) as (λ _. Grows (ideal program input limits k) (ideal program input limits i)) [
+      elim (cases_lt k i) as (λ _. Grows (ideal setting k) (ideal setting i)) [
         | inl less ↦ grows k i (omega arith)
-        | inr more ↦ subst (λ c. Grows c (ideal program input limits i)) (sym (end_stays i k end ended more)) (grows_none (ideal program input limits i))
+        | inr more ↦ subst (λ c. Grows c (ideal setting i)) (sym (end_stays i k end ended more)) (grows_none (ideal setting i))
       ]
 
-  pub one_end : (i j : ℕ) (e f : SourceEnd) → (ideal program input limits i).place ≡ Ended e → (ideal program input limits j).place ≡ Ended f → ideal program input limits i ≡ ideal program input limits j
+  pub one_end : (i j : ℕ) (e f : SourceEnd) → (ideal setting i).place ≡ Ended e → (ideal setting j).place ≡ Ended f → ideal setting i ≡ ideal setting j
   one_end i j e f at_i at_j =
-      elim (cases_lt i j) as (λ _. ideal program input limits i ≡ ideal program input limits j) [
+      elim (cases_lt i j) as (λ _. ideal setting i ≡ ideal setting j) [
         | inl less ↦ sym (end_stays i j e at_i (omega arith))
         | inr more ↦ end_stays j i f at_j more
       ]

@@ -1,7 +1,6 @@
 -- The leading side beside the ideal run.
 use Rattle.std.proofs.Common.{◌≡◌, ℕ, suc, ◌+◌, List, [], ◌∷◌, ◌++◌, length, take, refl, sym, ap, ap₂, ◌∙◌, subst, subst₂, arith, append-nil, append_assoc}
 use Rattle.srmt_base.specs.declared.event.Event.{Event}
-use Rattle.srmt_base.specs.declared.limits.Limits.{Limits}
 use Rattle.srmt_base.specs.declared.side.Side.{Side}
 use Rattle.srmt_base.specs.declared.side.Side.TheVariants.{Lead}
 use Rattle.srmt_base.specs.declared.trap.SourceEnd.{SourceEnd}
@@ -10,7 +9,7 @@ use Rattle.world.specs.Standing.{Standing}
 use Rattle.mid_code.specs.Pairs.{HasSites}
 use Rattle.word_stream.specs.declared.request.Request.{Request}
 use Rattle.word_stream.specs.Exchange.{checks_of, acks_of}
-use Rattle.world.specs.World.{WorldState, Over as WorldOver, ask}
+use Rattle.world.specs.World.{WorldState, Over as WorldOver, ask, Setting}
 use Rattle.world.specs.Requests.{Wants, Runs, Dies, Requests, Lost, wants, Resumed, Back, Over, resume}
 use Rattle.world.specs.Ideal.{Here, Ended as PlaceEnded, IdealState, place_by, ideal}
 use Rattle.verdicts.specs.declared.thread_end.ThreadEnd.TheVariants.{WriteFault}
@@ -65,145 +64,145 @@ pub data LeadAt (program : SharedProgram) (c : IdealState) (past : Past) : Type 
   LeadFailed : (m : Standing) (q : Request) (written : ℕ) → c.place ≡ Here m → wants program m ≡ Requests q →
       Shows past (Ended WriteFault) WorldOver (c.echoes ++ acks_of q) (c.words ++ checks_of q) (c.events ++ take written (ask c.world q).events) → LeadAt program c past
 
-module _ (program : SharedProgram) (input : List ℕ) (limits : Limits) (sites : HasSites program) where
+module _ (setting : Setting) (sites : HasSites setting.program) where
   abbrev LeadGoes : Past → Type 0
-  LeadGoes past = (j : ℕ) × LeadAt program (ideal program input limits j) past
+  LeadGoes past = (j : ℕ) × LeadAt setting.program (ideal setting j) past
 
   -- what the leading side meets is right: an acknowledgement is the next of the ideal run, and no
   -- link is closed
   abbrev pub LeadMeets : Past → Meet → Type 0
   LeadMeets past Plain = Unit {0}
-  LeadMeets past (Got word) = (k : ℕ) × IsPrefix (past.took ++ word ∷ []) (ideal program input limits k).echoes
+  LeadMeets past (Got word) = (k : ℕ) × IsPrefix (past.took ++ word ∷ []) (ideal setting k).echoes
   LeadMeets past Closed = ⊥
   LeadMeets past (Failed written) = Unit {0}
 
   -- the next acknowledgement of two ideal runs is one
-  pub next_echo : (i k : ℕ) (xs rest : List ℕ) (x y : ℕ) → IsPrefix (xs ++ x ∷ []) (ideal program input limits k).echoes → (ideal program input limits i).echoes ≡ xs ++ y ∷ rest → x ≡ y
+  pub next_echo : (i k : ℕ) (xs rest : List ℕ) (x y : ℕ) → IsPrefix (xs ++ x ∷ []) (ideal setting k).echoes → (ideal setting i).echoes ≡ xs ++ y ∷ rest → x ≡ y
   next_echo i k xs rest x y p e =
-      let all = (ideal program input limits (i + k)).echoes in
-      let first : IsPrefix (xs ++ x ∷ []) all = prefix_trans _ _ _ p (grows program input limits sites k (i + k) (omega arith)).echoes in
-      let second : IsPrefix (xs ++ y ∷ rest) all = subst (λ t. IsPrefix t all) e (grows program input limits sites i (i + k) (omega arith)).echoes in
+      let all = (ideal setting (i + k)).echoes in
+      let first : IsPrefix (xs ++ x ∷ []) all = prefix_trans _ _ _ p (grows setting sites k (i + k) (omega arith)).echoes in
+      let second : IsPrefix (xs ++ y ∷ rest) all = subst (λ t. IsPrefix t all) e (grows setting sites i (i + k) (omega arith)).echoes in
       next_of_two xs rest all x y first second
 
   module _ (i : ℕ) (past : Past) (s : SideState) (at : past.at ≡ Went s) where
     abbrev c : IdealState
-    c = ideal program input limits i
+    c = ideal setting i
 
     abbrev after : Meet → Past
-    after meet = grown past meet (next_of Lead program s past.world meet)
+    after meet = grown past meet (next_of Lead setting.program s past.world meet)
 
     -- what it can meet, where it is known to stand
-    can_there : (s₀ : SideState) (w : WorldState) (took sent : List ℕ) (events : List Event) (meet : Meet) → Shows past (Went s₀) w took sent events → CanMeet Lead program s past.world meet → CanMeet Lead program s₀ w meet
+    can_there : (s₀ : SideState) (w : WorldState) (took sent : List ℕ) (events : List Event) (meet : Meet) → Shows past (Went s₀) w took sent events → CanMeet Lead setting.program s past.world meet → CanMeet Lead setting.program s₀ w meet
     can_there s₀ w took sent events meet shows can =
-        subst₂ (λ x y. CanMeet Lead program x y meet) (same_state past s s₀ at shows.at_so) shows.world_so can
+        subst₂ (λ x y. CanMeet Lead setting.program x y meet) (same_state past s s₀ at shows.at_so) shows.world_so can
 
-    from_start : (m : Standing) → c.place ≡ Here m → Shows past (Went (lead_side program m 0 [])) c.world c.echoes c.words c.events →
-        (x : Wants) → wants program m ≡ x → (meet : Meet) → CanMeet Lead program (lead_side program m 0 []) c.world meet → LeadGoes (after meet)
+    from_start : (m : Standing) → c.place ≡ Here m → Shows past (Went (lead_side setting.program m 0 [])) c.world c.echoes c.words c.events →
+        (x : Wants) → wants setting.program m ≡ x → (meet : Meet) → CanMeet Lead setting.program (lead_side setting.program m 0 []) c.world meet → LeadGoes (after meet)
     from_start m here shows (Runs next) h Plain can =
-        let stands = stands_point program input limits sites i m here in
-        let e = next_runs program c m next here h in (
+        let stands = stands_point setting sites i m here in
+        let e = next_runs setting.program c m next here h in (
           suc i,
-          subst (λ d. LeadAt program d (after Plain)) (sym e) (LeadStarts next refl
-              (shows_on Lead program past _ s Plain _ _ _ _ _ _ _ _ shows at (lead_goes program m stands (next_line program m stands) next c.world h) (append-nil _) (append-nil _) (append-nil _))),
+          subst (λ d. LeadAt setting.program d (after Plain)) (sym e) (LeadStarts next refl
+              (shows_on Lead setting.program past _ s Plain _ _ _ _ _ _ _ _ shows at (lead_goes setting.program m stands (next_line setting.program m stands) next c.world h) (append-nil _) (append-nil _) (append-nil _))),
         )
     from_start m here shows (Runs next) h (Got word) can =
-        let stands = stands_point program input limits sites i m here in
-        let no = lead_runs_takes program m stands (next_line program m stands) next h in absurd (cc)
+        let stands = stands_point setting sites i m here in
+        let no = lead_runs_takes setting.program m stands (next_line setting.program m stands) next h in absurd (cc)
     from_start m here shows (Runs next) h Closed can =
-        let stands = stands_point program input limits sites i m here in
-        let no = lead_runs_takes program m stands (next_line program m stands) next h in absurd (cc)
+        let stands = stands_point setting sites i m here in
+        let no = lead_runs_takes setting.program m stands (next_line setting.program m stands) next h in absurd (cc)
     from_start m here shows (Runs next) h (Failed written) can =
-        let stands = stands_point program input limits sites i m here in
-        let none = ap (λ g. length g.events) (lead_goes program m stands (next_line program m stands) next c.world h) in absurd (omega (arith, can.1, none))
+        let stands = stands_point setting sites i m here in
+        let none = ap (λ g. length g.events) (lead_goes setting.program m stands (next_line setting.program m stands) next c.world h) in absurd (omega (arith, can.1, none))
     from_start m here shows (Dies words trap line) h meet can =
-        let stands = stands_point program input limits sites i m here in absurd (never_dies program m stands (next_line program m stands) words trap line h)
+        let stands = stands_point setting sites i m here in absurd (never_dies setting.program m stands (next_line setting.program m stands) words trap line h)
     from_start m here shows (Lost words) h meet can =
-        let stands = stands_point program input limits sites i m here in absurd (never_lost program m stands (next_line program m stands) words h)
+        let stands = stands_point setting sites i m here in absurd (never_lost setting.program m stands (next_line setting.program m stands) words h)
     from_start m here shows (Requests q) h Plain can =
-        let stands = stands_point program input limits sites i m here in
-        let some = acks_some program m stands q h in (
+        let stands = stands_point setting sites i m here in
+        let some = acks_some setting.program m stands q h in (
           i,
           LeadAwaits m q [] some.0 some.1 here h some.2
-              (shows_on Lead program past _ s Plain _ _ _ _ _ _ _ _ shows at (lead_asks program m stands q h c.world) refl refl (append-nil _)),
+              (shows_on Lead setting.program past _ s Plain _ _ _ _ _ _ _ _ shows at (lead_asks setting.program m stands q h c.world) refl refl (append-nil _)),
         )
     from_start m here shows (Requests q) h (Got word) can =
-        let stands = stands_point program input limits sites i m here in
-        let no = lead_asks_takes program m stands q h in absurd (cc)
+        let stands = stands_point setting sites i m here in
+        let no = lead_asks_takes setting.program m stands q h in absurd (cc)
     from_start m here shows (Requests q) h Closed can =
-        let stands = stands_point program input limits sites i m here in
-        let no = lead_asks_takes program m stands q h in absurd (cc)
+        let stands = stands_point setting sites i m here in
+        let no = lead_asks_takes setting.program m stands q h in absurd (cc)
     from_start m here shows (Requests q) h (Failed written) can =
-        let stands = stands_point program input limits sites i m here in
-        let none = ap (λ g. length g.events) (lead_asks program m stands q h c.world) in absurd (omega (arith, can.1, none))
+        let stands = stands_point setting sites i m here in
+        let none = ap (λ g. length g.events) (lead_asks setting.program m stands q h c.world) in absurd (omega (arith, can.1, none))
 
     -- an acknowledgement that is right
-    hears : (m : Standing) (q : Request) (heard : List ℕ) (x : ℕ) (rest : List ℕ) → c.place ≡ Here m → wants program m ≡ Requests q → acks_of q ≡ heard ++ x ∷ rest →
-        Shows past (Went (lead_side program m 1 heard)) c.world (c.echoes ++ heard) (c.words ++ checks_of q) c.events → LeadGoes (after (Got x))
+    hears : (m : Standing) (q : Request) (heard : List ℕ) (x : ℕ) (rest : List ℕ) → c.place ≡ Here m → wants setting.program m ≡ Requests q → acks_of q ≡ heard ++ x ∷ rest →
+        Shows past (Went (lead_side setting.program m 1 heard)) c.world (c.echoes ++ heard) (c.words ++ checks_of q) c.events → LeadGoes (after (Got x))
     hears m q heard x [] here h acks shows =
-        let stands = stands_point program input limits sites i m here in
+        let stands = stands_point setting sites i m here in
         let took : (c.echoes ++ heard) ++ x ∷ [] ≡ c.echoes ++ acks_of q = append_assoc c.echoes heard (x ∷ []) ∙ ap (λ t. c.echoes ++ t) (sym acks) in (
           i,
           LeadActs m q here h
-              (shows_on Lead program past _ s (Got x) _ _ _ _ _ _ _ _ shows at (lead_hears_last program m stands q h c.world heard x acks) took (append-nil _) (append-nil _)),
+              (shows_on Lead setting.program past _ s (Got x) _ _ _ _ _ _ _ _ shows at (lead_hears_last setting.program m stands q h c.world heard x acks) took (append-nil _) (append-nil _)),
         )
     hears m q heard x (y ∷ rest) here h acks shows =
-        let stands = stands_point program input limits sites i m here in
+        let stands = stands_point setting sites i m here in
         let more : acks_of q ≡ (heard ++ x ∷ []) ++ y ∷ rest = acks ∙ sym (append_assoc heard (x ∷ []) (y ∷ rest)) in (
           i,
           LeadAwaits m q (heard ++ x ∷ []) y rest here h more
-              (shows_on Lead program past _ s (Got x) _ _ _ _ _ _ _ _ shows at (lead_hears_more program m stands q h c.world heard x y rest acks) (append_assoc c.echoes heard (x ∷ [])) (append-nil _) (append-nil _)),
+              (shows_on Lead setting.program past _ s (Got x) _ _ _ _ _ _ _ _ shows at (lead_hears_more setting.program m stands q h c.world heard x y rest acks) (append_assoc c.echoes heard (x ∷ [])) (append-nil _) (append-nil _)),
         )
 
-    from_await : (m : Standing) (q : Request) (heard : List ℕ) (x : ℕ) (rest : List ℕ) → c.place ≡ Here m → wants program m ≡ Requests q → acks_of q ≡ heard ++ x ∷ rest →
-        Shows past (Went (lead_side program m 1 heard)) c.world (c.echoes ++ heard) (c.words ++ checks_of q) c.events →
-        (meet : Meet) → CanMeet Lead program (lead_side program m 1 heard) c.world meet → LeadMeets past meet → LeadGoes (after meet)
+    from_await : (m : Standing) (q : Request) (heard : List ℕ) (x : ℕ) (rest : List ℕ) → c.place ≡ Here m → wants setting.program m ≡ Requests q → acks_of q ≡ heard ++ x ∷ rest →
+        Shows past (Went (lead_side setting.program m 1 heard)) c.world (c.echoes ++ heard) (c.words ++ checks_of q) c.events →
+        (meet : Meet) → CanMeet Lead setting.program (lead_side setting.program m 1 heard) c.world meet → LeadMeets past meet → LeadGoes (after meet)
     from_await m q heard x rest here h acks shows Plain can right =
-        let stands = stands_point program input limits sites i m here in
-        let no = lead_hears_takes program m stands q h heard in absurd (cc)
+        let stands = stands_point setting sites i m here in
+        let no = lead_hears_takes setting.program m stands q h heard in absurd (cc)
     from_await m q heard x rest here h acks shows (Failed written) can right =
-        let stands = stands_point program input limits sites i m here in
-        let no = lead_hears_takes program m stands q h heard in let yes = can.0 in absurd (cc)
+        let stands = stands_point setting sites i m here in
+        let no = lead_hears_takes setting.program m stands q h heard in let yes = can.0 in absurd (cc)
     from_await m q heard x rest here h acks shows Closed can right = absurd right
     from_await m q heard x rest here h acks shows (Got word) can right =
-        let stands = stands_point program input limits sites i m here in
-        let all : (ideal program input limits (suc i)).echoes ≡ (c.echoes ++ heard) ++ x ∷ rest =
-        asked_echoes program input limits sites i m q here h ∙ ap (λ t. c.echoes ++ t) acks ∙ sym (append_assoc c.echoes heard (x ∷ rest)) in
-        let same : word ≡ x = next_echo (suc i) right.0 (c.echoes ++ heard) rest word x (subst (λ t. IsPrefix (t ++ word ∷ []) (ideal program input limits right.0).echoes) shows.took_so right.1) all in
+        let stands = stands_point setting sites i m here in
+        let all : (ideal setting (suc i)).echoes ≡ (c.echoes ++ heard) ++ x ∷ rest =
+        asked_echoes setting sites i m q here h ∙ ap (λ t. c.echoes ++ t) acks ∙ sym (append_assoc c.echoes heard (x ∷ rest)) in
+        let same : word ≡ x = next_echo (suc i) right.0 (c.echoes ++ heard) rest word x (subst (λ t. IsPrefix (t ++ word ∷ []) (ideal setting right.0).echoes) shows.took_so right.1) all in
         subst (λ y. LeadGoes (after (Got y))) (sym same) (hears m q heard x rest here h acks shows)
 
-    acted : (m : Standing) (q : Request) → c.place ≡ Here m → wants program m ≡ Requests q →
-        Shows past (Went (lead_side program m 2 [])) c.world (c.echoes ++ acks_of q) (c.words ++ checks_of q) c.events →
-        (x : Resumed) → resume program m (ask c.world q).response ≡ x → LeadAt program (record (answered_state program m q c) { place = place_by x }) (after Plain)
+    acted : (m : Standing) (q : Request) → c.place ≡ Here m → wants setting.program m ≡ Requests q →
+        Shows past (Went (lead_side setting.program m 2 [])) c.world (c.echoes ++ acks_of q) (c.words ++ checks_of q) c.events →
+        (x : Resumed) → resume setting.program m (ask c.world q).response ≡ x → LeadAt setting.program (record (answered_state setting.program m q c) { place = place_by x }) (after Plain)
     acted m q here h shows (Back next) back =
-        let stands = stands_point program input limits sites i m here in
+        let stands = stands_point setting sites i m here in
         LeadStarts next refl
-        (shows_on Lead program past _ s Plain _ _ _ _ _ _ _ _ shows at (lead_acts_back program m stands q h c.world next back) (append-nil _) refl refl)
+        (shows_on Lead setting.program past _ s Plain _ _ _ _ _ _ _ _ shows at (lead_acts_back setting.program m stands q h c.world next back) (append-nil _) refl refl)
     acted m q here h shows (Over end) over =
-        let stands = stands_point program input limits sites i m here in
+        let stands = stands_point setting sites i m here in
         LeadEnded end refl
-        (shows_on Lead program past _ s Plain _ _ _ _ _ _ _ _ shows at (lead_acts_over program m stands q h c.world end over) (append-nil _) refl refl)
+        (shows_on Lead setting.program past _ s Plain _ _ _ _ _ _ _ _ shows at (lead_acts_over setting.program m stands q h c.world end over) (append-nil _) refl refl)
 
-    from_act : (m : Standing) (q : Request) → c.place ≡ Here m → wants program m ≡ Requests q →
-        Shows past (Went (lead_side program m 2 [])) c.world (c.echoes ++ acks_of q) (c.words ++ checks_of q) c.events →
-        (meet : Meet) → CanMeet Lead program (lead_side program m 2 []) c.world meet → LeadGoes (after meet)
+    from_act : (m : Standing) (q : Request) → c.place ≡ Here m → wants setting.program m ≡ Requests q →
+        Shows past (Went (lead_side setting.program m 2 [])) c.world (c.echoes ++ acks_of q) (c.words ++ checks_of q) c.events →
+        (meet : Meet) → CanMeet Lead setting.program (lead_side setting.program m 2 []) c.world meet → LeadGoes (after meet)
     from_act m q here h shows Plain can =
-        let stands = stands_point program input limits sites i m here in
-        (suc (suc i), subst (λ d. LeadAt program d (after Plain)) (sym (next_twice program c m q here stands h)) (acted m q here h shows (resume program m (ask c.world q).response) refl))
+        let stands = stands_point setting sites i m here in
+        (suc (suc i), subst (λ d. LeadAt setting.program d (after Plain)) (sym (next_twice setting.program c m q here stands h)) (acted m q here h shows (resume setting.program m (ask c.world q).response) refl))
     from_act m q here h shows (Failed written) can =
-        let stands = stands_point program input limits sites i m here in (
+        let stands = stands_point setting sites i m here in (
           i,
           LeadFailed m q written here h
-              (shows_on Lead program past _ s (Failed written) _ _ _ _ _ _ _ _ shows at (lead_fails program m stands q h c.world written) (append-nil _) (append-nil _) refl),
+              (shows_on Lead setting.program past _ s (Failed written) _ _ _ _ _ _ _ _ shows at (lead_fails setting.program m stands q h c.world written) (append-nil _) (append-nil _) refl),
         )
     from_act m q here h shows (Got word) can =
-        let stands = stands_point program input limits sites i m here in
-        let no = lead_acts_takes program m stands q h in absurd (cc)
+        let stands = stands_point setting sites i m here in
+        let no = lead_acts_takes setting.program m stands q h in absurd (cc)
     from_act m q here h shows Closed can =
-        let stands = stands_point program input limits sites i m here in
-        let no = lead_acts_takes program m stands q h in absurd (cc)
+        let stands = stands_point setting sites i m here in
+        let no = lead_acts_takes setting.program m stands q h in absurd (cc)
 
-    pub lead_step : LeadAt program (ideal program input limits i) past → (meet : Meet) → CanMeet Lead program s past.world meet → LeadMeets past meet → LeadGoes (after meet)
-    lead_step (LeadStarts m here shows) meet can right = from_start m here shows (wants program m) refl meet (can_there _ _ _ _ _ meet shows can)
+    pub lead_step : LeadAt setting.program (ideal setting i) past → (meet : Meet) → CanMeet Lead setting.program s past.world meet → LeadMeets past meet → LeadGoes (after meet)
+    lead_step (LeadStarts m here shows) meet can right = from_start m here shows (wants setting.program m) refl meet (can_there _ _ _ _ _ meet shows can)
     lead_step (LeadAwaits m q heard x rest here h acks shows) meet can right = from_await m q heard x rest here h acks shows meet (can_there _ _ _ _ _ meet shows can) right
     lead_step (LeadActs m q here h shows) meet can right = from_act m q here h shows meet (can_there _ _ _ _ _ meet shows can)
     lead_step (LeadEnded end ended shows) meet can right = let both : Went s ≡ Ended (end_as end) = sym at ∙ shows.at_so in absurd (cc)

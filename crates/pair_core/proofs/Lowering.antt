@@ -1,11 +1,10 @@
 -- Each event of the core that is no wait leaves both sides less to go, until they have ended.
 use Rattle.std.proofs.Common.{◌≡◌, ◌≢◌, ℕ, ◌+◌, ◌<◌, List, length, Option, refl, sym, ap, ◌∙◌, subst, subst₂, arith}
 use Rattle.srmt_base.specs.declared.event.Event.{Event}
-use Rattle.srmt_base.specs.declared.limits.Limits.{Limits}
 use Rattle.srmt_base.specs.declared.side.Side.{Side}
 use Rattle.srmt_base.specs.declared.side.Side.TheVariants.{Lead, Trail}
-use Rattle.mid_code.specs.Classes.{SharedProgram}
 use Rattle.mid_code.specs.Pairs.{HasSites}
+use Rattle.world.specs.World.{Setting}
 use Rattle.machine.specs.declared.stepped.Stepped.TheVariants.{NotYet}
 use Rattle.machine.specs.Side.{SideState, Plain, Outcome, Went, Ended}
 use Rattle.machine.specs.Steps.{side_op, takes_at}
@@ -16,49 +15,49 @@ use Rattle.pair_core.proofs.Finding.{IsFound, found, alike}
 use Rattle.pair_core.proofs.Duos.{Good, Quits, good_scheduled, lead_meets, trail_meets, can_trail}
 use Rattle.pair_core.proofs.Measure.{side_left, duo_left, lead_lowers, trail_lowers}
 
-module _ (program : SharedProgram) (input : List ℕ) (limits : Limits) (sites : HasSites program) (duo : DuoState) (events : List Event) (g : Good program input limits duo events) where
-  lead_found : (s : SideState) → duo.lead ≡ Went s → (f : Finds) → IsFound (takes_at (side_op Lead program s)) (length (next_of Lead program s duo.world Plain).events) (view_of Lead duo) f →
-      (turn_found f Lead program s duo).stepped ≢ NotYet → duo_left program (turn_found f Lead program s duo).state < duo_left program duo
+module _ (setting : Setting) (sites : HasSites setting.program) (duo : DuoState) (events : List Event) (g : Good setting duo events) where
+  lead_found : (s : SideState) → duo.lead ≡ Went s → (f : Finds) → IsFound (takes_at (side_op Lead setting.program s)) (length (next_of Lead setting.program s duo.world Plain).events) (view_of Lead duo) f →
+      (turn_found f Lead setting.program s duo).stepped ≢ NotYet → duo_left setting.program (turn_found f Lead setting.program s duo).state < duo_left setting.program duo
   lead_found s at Waits h goes = absurd (goes refl)
   lead_found s at (Meets meet left) h goes =
-      let less = lead_lowers program input limits sites g.i g.lead s (sym g.is_lead ∙ at) meet g.lead_at (subst (λ w. CanMeet Lead program s w meet) g.is_world h.0) (lead_meets program input limits sites duo events g s at meet left h.0 h.1 h.2) in
-      let here : side_left program Lead (next_of Lead program s duo.world meet).outcome < side_left program Lead (Went s) = subst (λ w. side_left program Lead (next_of Lead program s w meet).outcome < side_left program Lead (Went s)) (sym g.is_world) less.less in
-      let now : side_left program Lead duo.lead ≡ side_left program Lead (Went s) = ap (side_left program Lead) at in
+      let less = lead_lowers setting sites g.i g.lead s (sym g.is_lead ∙ at) meet g.lead_at (subst (λ w. CanMeet Lead setting.program s w meet) g.is_world h.0) (lead_meets setting sites duo events g s at meet left h.0 h.1 h.2) in
+      let here : side_left setting.program Lead (next_of Lead setting.program s duo.world meet).outcome < side_left setting.program Lead (Went s) = subst (λ w. side_left setting.program Lead (next_of Lead setting.program s w meet).outcome < side_left setting.program Lead (Went s)) (sym g.is_world) less.less in
+      let now : side_left setting.program Lead duo.lead ≡ side_left setting.program Lead (Went s) = ap (side_left setting.program Lead) at in
       more_left _ _ _ _ now here
     where
       more_left : (a b c d : ℕ) → b ≡ c → a < c → a + d < b + d
       more_left a b c d e less = omega arith
 
-  trail_found : (s : SideState) → duo.trail ≡ Went s → (f : Finds) → IsFound (takes_at (side_op Trail program s)) (length (next_of Trail program s duo.world Plain).events) (view_of Trail duo) f →
-      (turn_found f Trail program s duo).stepped ≢ NotYet → duo_left program (turn_found f Trail program s duo).state < duo_left program duo
+  trail_found : (s : SideState) → duo.trail ≡ Went s → (f : Finds) → IsFound (takes_at (side_op Trail setting.program s)) (length (next_of Trail setting.program s duo.world Plain).events) (view_of Trail duo) f →
+      (turn_found f Trail setting.program s duo).stepped ≢ NotYet → duo_left setting.program (turn_found f Trail setting.program s duo).state < duo_left setting.program duo
   trail_found s at Waits h goes = absurd (goes refl)
   trail_found s at (Meets meet left) h goes =
-      let less = trail_lowers program input limits sites g.j g.trail s (sym g.is_trail ∙ at) meet (Quits g.lead) g.trail_at (can_trail program input limits sites duo events g s at meet left h.0 h.1 h.2) (trail_meets program input limits sites duo events g s at meet left h.0 h.1 h.2) in
-      let here : side_left program Trail (next_of Trail program s duo.world meet).outcome < side_left program Trail (Went s) = subst (λ o. side_left program Trail o < side_left program Trail (Went s)) (sym (alike program s duo.world g.trail.world meet).outcome) less.less in
-      let now : side_left program Trail duo.trail ≡ side_left program Trail (Went s) = ap (side_left program Trail) at in
+      let less = trail_lowers setting sites g.j g.trail s (sym g.is_trail ∙ at) meet (Quits g.lead) g.trail_at (can_trail setting sites duo events g s at meet left h.0 h.1 h.2) (trail_meets setting sites duo events g s at meet left h.0 h.1 h.2) in
+      let here : side_left setting.program Trail (next_of Trail setting.program s duo.world meet).outcome < side_left setting.program Trail (Went s) = subst (λ o. side_left setting.program Trail o < side_left setting.program Trail (Went s)) (sym (alike setting.program s duo.world g.trail.world meet).outcome) less.less in
+      let now : side_left setting.program Trail duo.trail ≡ side_left setting.program Trail (Went s) = ap (side_left setting.program Trail) at in
       more_left _ _ _ _ now here
     where
       more_left : (a b c d : ℕ) → b ≡ c → a < c → d + a < d + b
       more_left a b c d e less = omega arith
 
-  lead_turned : (fails : Option ℕ) (s : SideState) (o : Outcome) → duo.lead ≡ o → o ≡ Went s → (turn_at o Lead program fails duo).stepped ≢ NotYet → duo_left program (turn_at o Lead program fails duo).state < duo_left program duo
-  lead_turned fails s (Went t) at e goes = lead_found t at (finds Lead program t duo.world fails (view_of Lead duo)) (found Lead program t duo.world fails (view_of Lead duo)) goes
+  lead_turned : (fails : Option ℕ) (s : SideState) (o : Outcome) → duo.lead ≡ o → o ≡ Went s → (turn_at o Lead setting.program fails duo).stepped ≢ NotYet → duo_left setting.program (turn_at o Lead setting.program fails duo).state < duo_left setting.program duo
+  lead_turned fails s (Went t) at e goes = lead_found t at (finds Lead setting.program t duo.world fails (view_of Lead duo)) (found Lead setting.program t duo.world fails (view_of Lead duo)) goes
   lead_turned fails s (Ended end) at e goes = absurd (cc)
 
-  trail_turned : (fails : Option ℕ) (s : SideState) (o : Outcome) → duo.trail ≡ o → o ≡ Went s → (turn_at o Trail program fails duo).stepped ≢ NotYet → duo_left program (turn_at o Trail program fails duo).state < duo_left program duo
-  trail_turned fails s (Went t) at e goes = trail_found t at (finds Trail program t duo.world fails (view_of Trail duo)) (found Trail program t duo.world fails (view_of Trail duo)) goes
+  trail_turned : (fails : Option ℕ) (s : SideState) (o : Outcome) → duo.trail ≡ o → o ≡ Went s → (turn_at o Trail setting.program fails duo).stepped ≢ NotYet → duo_left setting.program (turn_at o Trail setting.program fails duo).state < duo_left setting.program duo
+  trail_turned fails s (Went t) at e goes = trail_found t at (finds Trail setting.program t duo.world fails (view_of Trail duo)) (found Trail setting.program t duo.world fails (view_of Trail duo)) goes
   trail_turned fails s (Ended end) at e goes = absurd (cc)
 
-  pub good_lowers : (side : Side) (fails : Option ℕ) (s : SideState) → (view_of side duo).at ≡ Went s → (turn_of program no_upsets side fails duo).stepped ≢ NotYet → duo_left program (turn_of program no_upsets side fails duo).state < duo_left program duo
+  pub good_lowers : (side : Side) (fails : Option ℕ) (s : SideState) → (view_of side duo).at ≡ Went s → (turn_of setting.program no_upsets side fails duo).stepped ≢ NotYet → duo_left setting.program (turn_of setting.program no_upsets side fails duo).state < duo_left setting.program duo
   good_lowers Lead fails s at goes = lead_turned fails s duo.lead refl at goes
   good_lowers Trail fails s at goes = trail_turned fails s duo.trail refl at goes
 
-pub good_reached : (program : SharedProgram) (input : List ℕ) (limits : Limits) (duo : DuoState) (events : List Event) → HasSites program → Reached program input limits no_upsets duo events → Good program input limits duo events
-good_reached program input limits duo events sites reached =
-    subst₂ (λ d e. Good program input limits d e) (ap (λ x. x.duo) reached.1) (ap (λ x. x.events) reached.1) (good_scheduled program input limits sites reached.0)
+pub good_reached : (setting : Setting) (duo : DuoState) (events : List Event) → HasSites setting.program → Reached setting no_upsets duo events → Good setting duo events
+good_reached setting duo events sites reached =
+    subst₂ (λ d e. Good setting d e) (ap (λ x. x.duo) reached.1) (ap (λ x. x.events) reached.1) (good_scheduled setting sites reached.0)
 
 -- for the loop that runs both sides in turn
-pub reached_lowers : (program : SharedProgram) (input : List ℕ) (limits : Limits) (duo : DuoState) (events : List Event) → HasSites program → Reached program input limits no_upsets duo events →
-    (side : Side) (fails : Option ℕ) (s : SideState) → (view_of side duo).at ≡ Went s → (turn_of program no_upsets side fails duo).stepped ≢ NotYet → duo_left program (turn_of program no_upsets side fails duo).state < duo_left program duo
-reached_lowers program input limits duo events sites reached side fails s at goes =
-    good_lowers program input limits sites duo events (good_reached program input limits duo events sites reached) side fails s at goes
+pub reached_lowers : (setting : Setting) (duo : DuoState) (events : List Event) → HasSites setting.program → Reached setting no_upsets duo events →
+    (side : Side) (fails : Option ℕ) (s : SideState) → (view_of side duo).at ≡ Went s → (turn_of setting.program no_upsets side fails duo).stepped ≢ NotYet → duo_left setting.program (turn_of setting.program no_upsets side fails duo).state < duo_left setting.program duo
+reached_lowers setting duo events sites reached side fails s at goes =
+    good_lowers setting sites duo events (good_reached setting duo events sites reached) side fails s at goes

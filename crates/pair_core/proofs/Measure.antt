@@ -1,7 +1,6 @@
 -- Each counted step leaves less to go.
 use Rattle.std.proofs.Common.{◌≡◌, ℕ, zero, suc, ◌+◌, ◌-◌, ◌*◌, ◌<◌, ◌≤◌, Bool, false, List, [], ◌∷◌, ◌++◌, length, Option, Some, None, slice_get, option_and_then, refl, sym, ap, ◌∙◌, subst, subst₂, arith, length-append, append_assoc}
 use Rattle.std.proofs.lemmas.Option.{slice_get_within}
-use Rattle.srmt_base.specs.declared.limits.Limits.{Limits}
 use Rattle.srmt_base.specs.declared.side.Side.{Side}
 use Rattle.srmt_base.specs.declared.side.Side.TheVariants.{Lead, Trail}
 use Rattle.srmt_base.specs.declared.trap.SourceEnd.{SourceEnd}
@@ -15,7 +14,7 @@ use Rattle.word_stream.specs.declared.request.Request.{Request}
 use Rattle.word_stream.specs.declared.request.Response.{Response}
 use Rattle.word_stream.specs.Exchange.{checks_of, acks_of}
 use Rattle.word_stream.proofs.Spelled.{no_words}
-use Rattle.world.specs.World.{WorldState, ask}
+use Rattle.world.specs.World.{WorldState, ask, Setting}
 use Rattle.world.specs.Requests.{Wants, Runs, Dies, Requests, Lost, wants, Resumed, Back, Over, resume}
 use Rattle.world.specs.Ideal.{ideal}
 use Rattle.verdicts.specs.declared.thread_end.ThreadEnd.TheVariants.{PeerEnded, WriteFault}
@@ -189,65 +188,65 @@ module _ (program : SharedProgram) (m : Standing) (stands : Stands program m) (w
         (lower_over program Trail (trail_side program m (suc (length (checks_of q)))) (trail_end_here program m stands q h r end over) (omega arith))
 
 -- the steps of a side beside the ideal run
-module _ (program : SharedProgram) (input : List ℕ) (limits : Limits) (sites : HasSites program) (i : ℕ) (past : Past) (s : SideState) (at : past.at ≡ Went s) where
+module _ (setting : Setting) (sites : HasSites setting.program) (i : ℕ) (past : Past) (s : SideState) (at : past.at ≡ Went s) where
   module _ (meet : Meet) where
     -- what holds where the side is known to stand holds of it
-    lower_there : (side : Side) (s₀ : SideState) (w : WorldState) → past.at ≡ Went s₀ → past.world ≡ w → CanMeet side program s past.world meet → (CanMeet side program s₀ w meet → Lower program side s₀ w meet) → Lower program side s past.world meet
+    lower_there : (side : Side) (s₀ : SideState) (w : WorldState) → past.at ≡ Went s₀ → past.world ≡ w → CanMeet side setting.program s past.world meet → (CanMeet side setting.program s₀ w meet → Lower setting.program side s₀ w meet) → Lower setting.program side s past.world meet
     lower_there side s₀ w at₀ world can less =
         let same = same_state past s₀ s at₀ at in
-        subst₂ (λ x y. Lower program side x y meet) same (sym world) (less (subst₂ (λ x y. CanMeet side program x y meet) (sym same) world can))
+        subst₂ (λ x y. Lower setting.program side x y meet) same (sym world) (less (subst₂ (λ x y. CanMeet side setting.program x y meet) (sym same) world can))
 
-    pub lead_lowers : LeadAt program (ideal program input limits i) past → CanMeet Lead program s past.world meet → LeadMeets program input limits sites past meet → Lower program Lead s past.world meet
+    pub lead_lowers : LeadAt setting.program (ideal setting i) past → CanMeet Lead setting.program s past.world meet → LeadMeets setting sites past meet → Lower setting.program Lead s past.world meet
     lead_lowers (LeadStarts m here shows) can right =
-        lower_there Lead _ _ shows.at_so shows.world_so can (lead_start program m (stands_point program input limits sites i m here) _ (wants program m) refl meet)
+        lower_there Lead _ _ shows.at_so shows.world_so can (lead_start setting.program m (stands_point setting sites i m here) _ (wants setting.program m) refl meet)
     lead_lowers (LeadAwaits m q heard x rest here h acks shows) can right =
-        lower_there Lead _ _ shows.at_so shows.world_so can (λ can'. lead_await program m stands _ q h heard x rest acks meet can' (closes meet right) (next meet right))
+        lower_there Lead _ _ shows.at_so shows.world_so can (λ can'. lead_await setting.program m stands _ q h heard x rest acks meet can' (closes meet right) (next meet right))
       where
-        stands : Stands program m
-        stands = stands_point program input limits sites i m here
+        stands : Stands setting.program m
+        stands = stands_point setting sites i m here
 
-        closes : (mt : Meet) → LeadMeets program input limits sites past mt → mt ≡ Closed → ⊥
+        closes : (mt : Meet) → LeadMeets setting sites past mt → mt ≡ Closed → ⊥
         closes Plain r e = cc
         closes (Got word) r e = cc
         closes Closed r e = r
         closes (Failed written) r e = cc
 
-        all : (ideal program input limits (suc i)).echoes ≡ past.took ++ x ∷ rest
-        all = asked_echoes program input limits sites i m q here h ∙ ap (λ t. (ideal program input limits i).echoes ++ t) acks ∙ sym (append_assoc (ideal program input limits i).echoes heard (x ∷ rest)) ∙ ap (λ t. t ++ x ∷ rest) (sym shows.took_so)
+        all : (ideal setting (suc i)).echoes ≡ past.took ++ x ∷ rest
+        all = asked_echoes setting sites i m q here h ∙ ap (λ t. (ideal setting i).echoes ++ t) acks ∙ sym (append_assoc (ideal setting i).echoes heard (x ∷ rest)) ∙ ap (λ t. t ++ x ∷ rest) (sym shows.took_so)
 
-        next : (mt : Meet) → LeadMeets program input limits sites past mt → (word : ℕ) → mt ≡ Got word → word ≡ x
+        next : (mt : Meet) → LeadMeets setting sites past mt → (word : ℕ) → mt ≡ Got word → word ≡ x
         next Plain r word e = absurd (cc)
-        next (Got other) r word e = let same : other ≡ word = cc in sym same ∙ next_echo program input limits sites (suc i) r.0 past.took rest other x r.1 all
+        next (Got other) r word e = let same : other ≡ word = cc in sym same ∙ next_echo setting sites (suc i) r.0 past.took rest other x r.1 all
         next Closed r word e = absurd r
         next (Failed written) r word e = absurd (cc)
     lead_lowers (LeadActs m q here h shows) can right =
-        lower_there Lead _ _ shows.at_so shows.world_so can (lead_act program m (stands_point program input limits sites i m here) _ q h meet)
+        lower_there Lead _ _ shows.at_so shows.world_so can (lead_act setting.program m (stands_point setting sites i m here) _ q h meet)
     lead_lowers (LeadEnded end ended shows) can right = let both : Went s ≡ Ended (end_as end) = sym at ∙ shows.at_so in absurd (cc)
     lead_lowers (LeadFailed m q written here h shows) can right = let both : Went s ≡ Ended WriteFault = sym at ∙ shows.at_so in absurd (cc)
 
     module _ (quit : List ℕ → Type 0) where
-      next_check : (xs rest : List ℕ) (x : ℕ) → xs ≡ past.took → (ideal program input limits (suc i)).words ≡ xs ++ x ∷ rest → (mt : Meet) → TrailMeets program input limits sites quit past mt → (word : ℕ) → mt ≡ Got word → word ≡ x
+      next_check : (xs rest : List ℕ) (x : ℕ) → xs ≡ past.took → (ideal setting (suc i)).words ≡ xs ++ x ∷ rest → (mt : Meet) → TrailMeets setting sites quit past mt → (word : ℕ) → mt ≡ Got word → word ≡ x
       next_check xs rest x took all Plain r word e = absurd (cc)
       next_check xs rest x took all (Got other) r word e =
           let same : other ≡ word = cc in
-          sym same ∙ next_word program input limits sites quit (suc i) r.0 past.took rest other x r.1 (all ∙ ap (λ t. t ++ x ∷ rest) took)
+          sym same ∙ next_word setting sites quit (suc i) r.0 past.took rest other x r.1 (all ∙ ap (λ t. t ++ x ∷ rest) took)
       next_check xs rest x took all Closed r word e = absurd (cc)
       next_check xs rest x took all (Failed written) r word e = absurd (cc)
 
-      pub trail_lowers : TrailAt program (ideal program input limits i) quit past → CanMeet Trail program s past.world meet → TrailMeets program input limits sites quit past meet → Lower program Trail s past.world meet
+      pub trail_lowers : TrailAt setting.program (ideal setting i) quit past → CanMeet Trail setting.program s past.world meet → TrailMeets setting sites quit past meet → Lower setting.program Trail s past.world meet
       trail_lowers (TrailStarts m here tells) can right =
           lower_there Trail _ _ tells.at_so refl can
-          (λ can'. trail_start program m (stands_point program input limits sites i m here) _ (wants program m) refl meet can'
-          (λ q y rest word h checks got. next_check (ideal program input limits i).words rest y (sym tells.took_so) (asked_words program input limits sites i m q here h ∙ ap (λ t. (ideal program input limits i).words ++ t) checks) meet right word got))
+          (λ can'. trail_start setting.program m (stands_point setting sites i m here) _ (wants setting.program m) refl meet can'
+          (λ q y rest word h checks got. next_check (ideal setting i).words rest y (sym tells.took_so) (asked_words setting sites i m q here h ∙ ap (λ t. (ideal setting i).words ++ t) checks) meet right word got))
       trail_lowers (TrailChecks m q done x rest here h checks tells) can right =
           lower_there Trail _ _ tells.at_so refl can
-          (λ can'. trail_check program m (stands_point program input limits sites i m here) _ q h done x rest checks meet can'
-          (next_check ((ideal program input limits i).words ++ done) rest x (sym tells.took_so) (asked_words program input limits sites i m q here h ∙ ap (λ t. (ideal program input limits i).words ++ t) checks ∙ sym (append_assoc (ideal program input limits i).words done (x ∷ rest))) meet right))
+          (λ can'. trail_check setting.program m (stands_point setting sites i m here) _ q h done x rest checks meet can'
+          (next_check ((ideal setting i).words ++ done) rest x (sym tells.took_so) (asked_words setting sites i m q here h ∙ ap (λ t. (ideal setting i).words ++ t) checks ∙ sym (append_assoc (ideal setting i).words done (x ∷ rest))) meet right))
       trail_lowers (TrailAcks m q here h tells) can right =
           lower_there Trail _ _ tells.at_so refl can
-          (trail_acks_on program m (stands_point program input limits sites i m here) _ q h (ask (ideal program input limits i).world q).response (resume program m (ask (ideal program input limits i).world q).response) refl meet)
+          (trail_acks_on setting.program m (stands_point setting sites i m here) _ q h (ask (ideal setting i).world q).response (resume setting.program m (ask (ideal setting i).world q).response) refl meet)
       trail_lowers (TrailEnding m q r end owed h over tells) can right =
           lower_there Trail _ _ tells.at_so refl can
-          (trail_end program m (stands_owed program input limits sites i m r owed) _ q h r end over meet)
+          (trail_end setting.program m (stands_owed setting sites i m r owed) _ q h r end over meet)
       trail_lowers (TrailEnded end ended tells) can right = let both : Went s ≡ Ended (end_as end) = sym at ∙ tells.at_so in absurd (cc)
       trail_lowers (TrailGone m q done x rest here h checks tells gone) can right = let both : Went s ≡ Ended PeerEnded = sym at ∙ tells.at_so in absurd (cc)

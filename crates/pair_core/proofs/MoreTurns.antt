@@ -2,11 +2,11 @@
 use Rattle.std.proofs.Common.{◌≡◌, ◌≢◌, ℕ, zero, suc, ◌+◌, ◌<◌, ◌≤◌, Bool, true, false, List, [], ◌++◌, Option, Some, None, refl, sym, ap, ap₂, ◌∙◌, subst, arith, append-nil}
 use Rattle.std.specs.Option.{is_some}
 use Rattle.srmt_base.specs.declared.event.Event.{Event}
-use Rattle.srmt_base.specs.declared.limits.Limits.{Limits}
 use Rattle.srmt_base.specs.declared.side.Side.{Side}
 use Rattle.srmt_base.specs.declared.side.Side.TheVariants.{Lead, Trail}
 use Rattle.mid_code.specs.Classes.{SharedProgram}
 use Rattle.mid_code.specs.Pairs.{HasSites}
+use Rattle.world.specs.World.{Setting}
 use Rattle.verdicts.specs.declared.thread_end.ThreadEnd.{ThreadEnd}
 use Rattle.machine.specs.declared.stepped.Stepped.{Stepped}
 use Rattle.machine.specs.declared.stepped.Stepped.TheVariants.{Made, NotYet, MadeLast}
@@ -110,28 +110,28 @@ module _ (program : SharedProgram) (side : Side) where
           let clash : MadeLast end ≡ Made = ap (λ (t : Turned). t.stepped) (sym ended ∙ turns) in
           absurd (cc)
 
-module _ (program : SharedProgram) (input : List ℕ) (limits : Limits) (side : Side) where
+module _ (setting : Setting) (side : Side) where
   -- some schedule leads there too
-  pub more_reached : (n : ℕ) (duo after : DuoState) (events : List Event) → Reached program input limits no_upsets duo events → MoreTurns program no_upsets side n duo after →
-      Reached program input limits no_upsets after events
-  more_reached zero duo after events reached same = subst (λ d. Reached program input limits no_upsets d events) (sym same) reached
+  pub more_reached : (n : ℕ) (duo after : DuoState) (events : List Event) → Reached setting no_upsets duo events → MoreTurns setting.program no_upsets side n duo after →
+      Reached setting no_upsets after events
+  more_reached zero duo after events reached same = subst (λ d. Reached setting no_upsets d events) (sym same) reached
   more_reached (suc n) duo after events reached more =
       let so_far = more_reached n duo more.0 events reached more.1 in
-      subst (Reached program input limits no_upsets after) (append-nil events)
-      (turns_reach program input limits more.0 events so_far side None after Made [] more.2)
+      subst (Reached setting no_upsets after) (append-nil events)
+      (turns_reach setting more.0 events so_far side None after Made [] more.2)
 
   -- and less is to go, whoever's turn it is
-  pub more_lower : (n : ℕ) (duo after : DuoState) (events : List Event) → HasSites program → Reached program input limits no_upsets duo events → MoreTurns program no_upsets side n duo after →
-      (whose : Side) → turns_left program whose after ≤ turns_left program whose duo
-  more_lower zero duo after events sites reached same whose = subst (λ d. turns_left program whose d ≤ turns_left program whose duo) (sym same) (omega arith)
+  pub more_lower : (n : ℕ) (duo after : DuoState) (events : List Event) → HasSites setting.program → Reached setting no_upsets duo events → MoreTurns setting.program no_upsets side n duo after →
+      (whose : Side) → turns_left setting.program whose after ≤ turns_left setting.program whose duo
+  more_lower zero duo after events sites reached same whose = subst (λ d. turns_left setting.program whose d ≤ turns_left setting.program whose duo) (sym same) (omega arith)
   more_lower (suc n) duo after events sites reached more whose =
       let so_far = more_reached n duo more.0 events reached more.1 in
       let before = more_lower n duo more.0 events sites reached more.1 whose in
-      let s = had_not_ended program side more.0 after more.2 in
-      let made_it : (turn_of program no_upsets side None more.0).stepped ≢ NotYet = λ h. (let clash : Made ≡ NotYet = sym (ap (λ (t : Turned). t.stepped) more.2) ∙ h in cc) in
-      let lowers = reached_lowers program input limits more.0 events sites so_far side None s.0 s.1 made_it in
-      let less : duo_left program after < duo_left program more.0 = subst (λ (t : Turned). duo_left program t.state < duo_left program more.0) more.2 lowers in
-      omega (arith, before, less, idle_few_at program whose after)
+      let s = had_not_ended setting.program side more.0 after more.2 in
+      let made_it : (turn_of setting.program no_upsets side None more.0).stepped ≢ NotYet = λ h. (let clash : Made ≡ NotYet = sym (ap (λ (t : Turned). t.stepped) more.2) ∙ h in cc) in
+      let lowers = reached_lowers setting more.0 events sites so_far side None s.0 s.1 made_it in
+      let less : duo_left setting.program after < duo_left setting.program more.0 = subst (λ (t : Turned). duo_left setting.program t.state < duo_left setting.program more.0) more.2 lowers in
+      omega (arith, before, less, idle_few_at setting.program whose after)
 
 -- the same by the fields of the core
 not_some : (o : Option ThreadEnd) → is_some o ≡ false → o ≡ None
@@ -156,16 +156,16 @@ module _ (program : SharedProgram) (a : Inside) (before : DuoState) (is : duo_of
       (subst (MoreTurns program no_upsets Trail n (duo_of a)) last turns)
 
 -- an event of a side with those behind it, for the loop over both sides
-module _ (program : SharedProgram) (input : List ℕ) (limits : Limits) (duo : DuoState) (events : List Event) (reached : Reached program input limits no_upsets duo events) (side : Side) (after : DuoState) (stepped : Stepped) (written : List Event)
-    (on : TurnsOn program no_upsets side duo after stepped written) where
-  first_reached : Reached program input limits no_upsets on.first (events ++ written)
-  first_reached = turns_reach program input limits duo events reached side on.fails on.first stepped written on.turns
+module _ (setting : Setting) (duo : DuoState) (events : List Event) (reached : Reached setting no_upsets duo events) (side : Side) (after : DuoState) (stepped : Stepped) (written : List Event)
+    (on : TurnsOn setting.program no_upsets side duo after stepped written) where
+  first_reached : Reached setting no_upsets on.first (events ++ written)
+  first_reached = turns_reach setting duo events reached side on.fails on.first stepped written on.turns
 
-  pub on_reach : Reached program input limits no_upsets after (events ++ written)
-  on_reach = more_reached program input limits side on.count on.first after (events ++ written) first_reached on.more
+  pub on_reach : Reached setting no_upsets after (events ++ written)
+  on_reach = more_reached setting side on.count on.first after (events ++ written) first_reached on.more
 
-  pub on_lower : HasSites program → (BothOver duo → ⊥) → turns_left program (next_turn stepped side) after < turns_left program side duo
+  pub on_lower : HasSites setting.program → (BothOver duo → ⊥) → turns_left setting.program (next_turn stepped side) after < turns_left setting.program side duo
   on_lower sites going =
-      let first = turns_lower program input limits duo events sites reached going side on.fails on.first stepped written on.turns in
-      let more = more_lower program input limits side on.count on.first after (events ++ written) sites first_reached on.more (next_turn stepped side) in
+      let first = turns_lower setting duo events sites reached going side on.fails on.first stepped written on.turns in
+      let more = more_lower setting side on.count on.first after (events ++ written) sites first_reached on.more (next_turn stepped side) in
       omega (arith, first, more)

@@ -1,9 +1,9 @@
 -- What the loop over both sides needs to know of one event more.
 use Rattle.std.proofs.Common.{◌≡◌, ℕ, Bool, true, false, List, [], ◌∷◌, ◌++◌, length, Option, refl, ap, ◌∙◌}
 use Rattle.srmt_base.specs.declared.event.Event.{Event}
-use Rattle.srmt_base.specs.declared.limits.Limits.{Limits}
 use Rattle.srmt_base.specs.declared.side.Side.{Side}
 use Rattle.mid_code.specs.Classes.{SharedProgram}
+use Rattle.world.specs.World.{Setting}
 use Rattle.machine.specs.declared.stepped.Stepped.TheVariants.{NotYet}
 use Rattle.machine.specs.Side.{SideState, Meet, Plain, Outcome, Went, Ended}
 use Rattle.machine.specs.Steps.{side_op, takes_at, may_send_at}
@@ -12,8 +12,8 @@ use Rattle.machine.specs.Upset.{no_upsets}
 use Rattle.pair_core.specs.Duo.{DuoState, opening_duo, View, view_of, Finds, Waits, Meets, meet_by, finds_room, is_crowded, finds_by, finds, turn_found, turn_at, turn_of, Entry, Scheduled, run_on, Reached}
 use Rattle.pair_core.proofs.Finding.{stepped_made}
 
-pub reached_opening : (program : SharedProgram) (input : List ℕ) (limits : Limits) → Reached program input limits no_upsets (opening_duo program input limits) []
-reached_opening program input limits = ([], refl)
+pub reached_opening : (setting : Setting) → Reached setting no_upsets (opening_duo setting) []
+reached_opening setting = ([], refl)
 
 run_more : (program : SharedProgram) (entries more : List Entry) (sofar : Scheduled) → run_on program no_upsets sofar (entries ++ more) ≡ run_on program no_upsets (run_on program no_upsets sofar entries) more
 run_more program [] more sofar = refl
@@ -21,12 +21,12 @@ run_more program (entry ∷ entries) more sofar =
     run_more program entries more (record { duo = (turn_of program no_upsets entry.side entry.fails sofar.duo).state; events = sofar.events ++ (turn_of program no_upsets entry.side entry.fails sofar.duo).events })
 
 -- one event more
-pub reached_turn : (program : SharedProgram) (input : List ℕ) (limits : Limits) (duo : DuoState) (events : List Event) → Reached program input limits no_upsets duo events → (side : Side) (fails : Option ℕ) →
-    Reached program input limits no_upsets (turn_of program no_upsets side fails duo).state (events ++ (turn_of program no_upsets side fails duo).events)
-reached_turn program input limits duo events reached side fails =
+pub reached_turn : (setting : Setting) (duo : DuoState) (events : List Event) → Reached setting no_upsets duo events → (side : Side) (fails : Option ℕ) →
+    Reached setting no_upsets (turn_of setting.program no_upsets side fails duo).state (events ++ (turn_of setting.program no_upsets side fails duo).events)
+reached_turn setting duo events reached side fails =
     let entry : Entry = record { side = side; fails = fails } in (
       reached.0 ++ entry ∷ [],
-      run_more program reached.0 (entry ∷ []) (record { duo = opening_duo program input limits; events = [] }) ∙ ap (λ sofar. run_on program no_upsets sofar (entry ∷ [])) reached.1,
+      run_more setting.program reached.0 (entry ∷ []) (record { duo = opening_duo setting; events = [] }) ∙ ap (λ sofar. run_on setting.program no_upsets sofar (entry ∷ [])) reached.1,
     )
 
 -- what waits is left as it is

@@ -1,10 +1,9 @@
 -- What holds of both sides beside the ideal run, as callers read it.
 use Rattle.std.proofs.Common.{◌≡◌, ℕ, ◌⊎◌, inl, inr, true, List, ◌++◌, refl, sym, ap, ◌∙◌, subst, subst₂}
 use Rattle.srmt_base.specs.declared.event.Event.{Event}
-use Rattle.srmt_base.specs.declared.limits.Limits.{Limits}
 use Rattle.srmt_base.specs.declared.trap.SourceEnd.{SourceEnd}
-use Rattle.mid_code.specs.Classes.{SharedProgram}
 use Rattle.mid_code.specs.Pairs.{HasSites}
+use Rattle.world.specs.World.{Setting}
 use Rattle.world.specs.Ideal.{Ended as PlaceEnded, ideal, IsIdeal}
 use Rattle.verdicts.specs.declared.thread_end.ThreadEnd.{ThreadEnd}
 use Rattle.verdicts.specs.declared.thread_end.ThreadEnd.TheVariants.{PeerEnded, WriteFault}
@@ -19,7 +18,7 @@ use Rattle.pair_core.proofs.Bounds.{not_closed, lead_words, lead_events, lead_cl
 use Rattle.pair_core.proofs.Duos.{Good, Quits, good_scheduled}
 use Rattle.pair_core.proofs.Standing.{goes_on}
 
-module _ (program : SharedProgram) (input : List ℕ) (limits : Limits) (sites : HasSites program) (duo : DuoState) (events : List Event) (g : Good program input limits duo events) where
+module _ (setting : Setting) (sites : HasSites setting.program) (duo : DuoState) (events : List Event) (g : Good setting duo events) where
   lead_ended : (end : ThreadEnd) → duo.lead ≡ Ended end → is_over g.lead.at ≡ true
   lead_ended end e = ap is_over (sym g.is_lead ∙ e)
 
@@ -32,7 +31,7 @@ module _ (program : SharedProgram) (input : List ℕ) (limits : Limits) (sites :
   -- the leading side never finds its link closed
   lead_open : g.lead.at ≡ Ended PeerEnded → ⊥
   lead_open closed =
-      let final = lead_final program input limits sites g.i g.lead g.lead_at (ap is_over closed) in
+      let final = lead_final setting sites g.i g.lead g.lead_at (ap is_over closed) in
       elim final.3 as (λ _. ⊥) [
         | inl ended ↦ not_closed ended.0 (same_end _ _ (sym ended.2 ∙ closed))
         | inr fault ↦ let both : PeerEnded ≡ WriteFault = same_end _ _ (sym closed ∙ fault) in cc
@@ -41,12 +40,12 @@ module _ (program : SharedProgram) (input : List ℕ) (limits : Limits) (sites :
   -- the trailing side does where an event has failed, and all was taken
   trail_closed : g.trail.at ≡ Ended PeerEnded → (g.trail.took ≡ g.lead.sent) × IsOver g.lead.at
   trail_closed closed =
-      elim (trail_final program input limits sites g.j (Quits g.lead) g.trail g.trail_at (ap is_over closed)) as (λ _. (g.trail.took ≡ g.lead.sent) × IsOver g.lead.at) [
+      elim (trail_final setting sites g.j (Quits g.lead) g.trail g.trail_at (ap is_over closed)) as (λ _. (g.trail.took ≡ g.lead.sent) × IsOver g.lead.at) [
         | inl ended ↦ absurd (not_closed ended.0 (same_end _ _ (sym ended.2 ∙ closed)))
         | inr quit ↦ (quit.1, (WriteFault, quit.0))
       ]
 
-  pub good_fit : Fit program input limits no_upsets duo.lead_steps duo.trail_steps
+  pub good_fit : Fit setting no_upsets duo.lead_steps duo.trail_steps
   good_fit = record {
     lead = g.lead;
     trail = g.trail;
@@ -58,17 +57,17 @@ module _ (program : SharedProgram) (input : List ℕ) (limits : Limits) (sites :
     trail_closed = trail_closed;
   }
 
-  ends_by : (a b : ThreadEnd) → duo.lead ≡ Ended a → duo.trail ≡ Ended b → (a ≡ WriteFault) ⊎ AsIdeal program input limits a b g.lead.sent events
+  ends_by : (a b : ThreadEnd) → duo.lead ≡ Ended a → duo.trail ≡ Ended b → (a ≡ WriteFault) ⊎ AsIdeal setting a b g.lead.sent events
   ends_by a b lead trail =
       let at_lead : g.lead.at ≡ Ended a = sym g.is_lead ∙ lead in
       let at_trail : g.trail.at ≡ Ended b = sym g.is_trail ∙ trail in
-      let final = lead_final program input limits sites g.i g.lead g.lead_at (lead_ended a lead) in
-      elim final.3 as (λ _. (a ≡ WriteFault) ⊎ AsIdeal program input limits a b g.lead.sent events) [
+      let final = lead_final setting sites g.i g.lead g.lead_at (lead_ended a lead) in
+      elim final.3 as (λ _. (a ≡ WriteFault) ⊎ AsIdeal setting a b g.lead.sent events) [
         | inr fault ↦ inl (same_end _ _ (sym at_lead ∙ fault))
-        | inl ended ↦ elim (trail_final program input limits sites g.j (Quits g.lead) g.trail g.trail_at (trail_ended b trail)) as (λ _. (a ≡ WriteFault) ⊎ AsIdeal program input limits a b g.lead.sent events) [
+        | inl ended ↦ elim (trail_final setting sites g.j (Quits g.lead) g.trail g.trail_at (trail_ended b trail)) as (λ _. (a ≡ WriteFault) ⊎ AsIdeal setting a b g.lead.sent events) [
           | inr quit ↦ inl (same_end _ _ (sym at_lead ∙ quit.0))
           | inl done ↦
-              let one = one_end program input limits sites final.0 g.j ended.0 done.0 ended.1 done.1 in
+              let one = one_end setting sites final.0 g.j ended.0 done.0 ended.1 done.1 in
               let places : PlaceEnded done.0 ≡ PlaceEnded ended.0 = sym done.1 ∙ ap (λ c. c.place) (sym one) ∙ ended.1 in
               let same : done.0 ≡ ended.0 = cc in
               inr (record {
@@ -84,7 +83,7 @@ module _ (program : SharedProgram) (input : List ℕ) (limits : Limits) (sites :
   on_way (Went s) sent took way e = e
   on_way (Ended end) sent took way e = subst (IsPrefix (took ++ way)) (sym e) (prefix_refl (took ++ way))
 
-  pub fit_state : IsFitState program input limits no_upsets duo events
+  pub fit_state : IsFitState setting no_upsets duo events
   unfolding good_fit
   fit_state = record {
     fit = good_fit;
@@ -103,45 +102,45 @@ module _ (program : SharedProgram) (input : List ℕ) (limits : Limits) (sites :
     acks = on_way duo.lead g.trail.sent g.lead.took duo.acks g.acks;
   }
 
-  follows : FollowsIdealRun program input limits duo g.lead g.trail events
+  follows : FollowsIdealRun setting duo g.lead g.trail events
   follows = record {
-    ideal_words = lead_words program input limits sites g.i g.lead g.lead_at;
-    ideal_events = let e = lead_events program input limits sites g.i g.lead g.lead_at in (e.0, subst (λ t. IsPrefix t (ideal program input limits e.0).events) (sym g.written) e.1);
-    lead_clean = subst IsClean (sym g.is_lead) (lead_clean program input limits sites g.i g.lead g.lead_at);
-    trail_clean = subst IsClean (sym g.is_trail) (trail_clean program input limits sites g.j (Quits g.lead) g.trail g.trail_at);
+    ideal_words = lead_words setting sites g.i g.lead g.lead_at;
+    ideal_events = let e = lead_events setting sites g.i g.lead g.lead_at in (e.0, subst (λ t. IsPrefix t (ideal setting e.0).events) (sym g.written) e.1);
+    lead_clean = subst IsClean (sym g.is_lead) (lead_clean setting sites g.i g.lead g.lead_at);
+    trail_clean = subst IsClean (sym g.is_trail) (trail_clean setting sites g.j (Quits g.lead) g.trail g.trail_at);
     words = g.words;
     acks = g.acks;
   }
 
-  pub sound : Sound program input limits no_upsets duo events
+  pub sound : Sound setting no_upsets duo events
   unfolding good_fit fit_state
   sound = record {
     fits = fit_state;
     follows = λ none. follows;
-    ends_well = record { ends = λ none. ends_by; goes = goes_on program input limits sites duo events g };
+    ends_well = record { ends = λ none. ends_by; goes = goes_on setting sites duo events g };
   }
 
 -- what comes first after some steps of the ideal run comes first in all that it writes
-module _ (program : SharedProgram) (input : List ℕ) (limits : Limits) (sites : HasSites program) where
-  pub first_words : (words all : List ℕ) (events : List Event) (end : SourceEnd) → IdealWords program input limits words → IsIdeal program input limits all events end → IsPrefix words all
+module _ (setting : Setting) (sites : HasSites setting.program) where
+  pub first_words : (words all : List ℕ) (events : List Event) (end : SourceEnd) → IdealWords setting words → IsIdeal setting all events end → IsPrefix words all
   first_words words all events end first whole =
-      subst (IsPrefix words) whole.words_so (prefix_trans words (ideal program input limits first.0).words _ first.1 (below_end program input limits sites whole.steps first.0 end whole.ended).words)
+      subst (IsPrefix words) whole.words_so (prefix_trans words (ideal setting first.0).words _ first.1 (below_end setting sites whole.steps first.0 end whole.ended).words)
 
-  pub first_events : (events all : List Event) (words : List ℕ) (end : SourceEnd) → IdealEvents program input limits events → IsIdeal program input limits words all end → IsPrefix events all
+  pub first_events : (events all : List Event) (words : List ℕ) (end : SourceEnd) → IdealEvents setting events → IsIdeal setting words all end → IsPrefix events all
   first_events events all words end first whole =
-      subst (IsPrefix events) whole.events_so (prefix_trans events (ideal program input limits first.0).events _ first.1 (below_end program input limits sites whole.steps first.0 end whole.ended).events)
+      subst (IsPrefix events) whole.events_so (prefix_trans events (ideal setting first.0).events _ first.1 (below_end setting sites whole.steps first.0 end whole.ended).events)
 
 -- every schedule
-pub sound_scheduled : (program : SharedProgram) (input : List ℕ) (limits : Limits) → HasSites program → (entries : List Entry) → Sound program input limits no_upsets (scheduled program input limits no_upsets entries).duo (scheduled program input limits no_upsets entries).events
-sound_scheduled program input limits sites entries =
-    sound program input limits sites (scheduled program input limits no_upsets entries).duo (scheduled program input limits no_upsets entries).events (good_scheduled program input limits sites entries)
+pub sound_scheduled : (setting : Setting) → HasSites setting.program → (entries : List Entry) → Sound setting no_upsets (scheduled setting no_upsets entries).duo (scheduled setting no_upsets entries).events
+sound_scheduled setting sites entries =
+    sound setting sites (scheduled setting no_upsets entries).duo (scheduled setting no_upsets entries).events (good_scheduled setting sites entries)
 
 -- the trailing side never ends by an event that failed
-pub no_trail_fault : (program : SharedProgram) (input : List ℕ) (limits : Limits) → HasSites program → (entries : List Entry) → (scheduled program input limits no_upsets entries).duo.trail ≡ Ended WriteFault → ⊥
-no_trail_fault program input limits sites entries h =
-    let g = good_scheduled program input limits sites entries in
-    trail_no_fault program input limits sites g.j (Quits g.lead) g.trail g.trail_at (sym g.is_trail ∙ h)
+pub no_trail_fault : (setting : Setting) → HasSites setting.program → (entries : List Entry) → (scheduled setting no_upsets entries).duo.trail ≡ Ended WriteFault → ⊥
+no_trail_fault setting sites entries h =
+    let g = good_scheduled setting sites entries in
+    trail_no_fault setting sites g.j (Quits g.lead) g.trail g.trail_at (sym g.is_trail ∙ h)
 
-pub sound_reached : (program : SharedProgram) (input : List ℕ) (limits : Limits) (duo : DuoState) (events : List Event) → HasSites program → Reached program input limits no_upsets duo events → Sound program input limits no_upsets duo events
-sound_reached program input limits duo events sites reached =
-    subst₂ (λ d e. Sound program input limits no_upsets d e) (ap (λ x. x.duo) reached.1) (ap (λ x. x.events) reached.1) (sound_scheduled program input limits sites reached.0)
+pub sound_reached : (setting : Setting) (duo : DuoState) (events : List Event) → HasSites setting.program → Reached setting no_upsets duo events → Sound setting no_upsets duo events
+sound_reached setting duo events sites reached =
+    subst₂ (λ d e. Sound setting no_upsets d e) (ap (λ x. x.duo) reached.1) (ap (λ x. x.events) reached.1) (sound_scheduled setting sites reached.0)

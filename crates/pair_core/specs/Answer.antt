@@ -1,11 +1,10 @@
 -- The answer of a run of both sides.
 use Rattle.std.specs.Prelude.{◌≡◌, ℕ, ◌⊎◌, ◌||◌, List, length}
 use Rattle.srmt_base.specs.declared.event.Event.{Event}
-use Rattle.srmt_base.specs.declared.limits.Limits.{Limits}
 use Rattle.srmt_base.specs.declared.trap.SourceEnd.{SourceEnd}
 use Rattle.srmt_base.specs.declared.trap.SourceEnd.TheVariants.{Exit as SourceExit, Trap as SourceTrap}
 use Rattle.srmt_base.specs.Trap.{is_budget}
-use Rattle.mid_code.specs.Classes.{SharedProgram}
+use Rattle.world.specs.World.{Setting}
 use Rattle.world.specs.Ideal.{IsIdeal}
 use Rattle.verdicts.specs.declared.thread_end.ThreadEnd.{ThreadEnd}
 use Rattle.verdicts.specs.declared.verdict.Ran.{Ran}
@@ -18,8 +17,8 @@ use Rattle.pair_core.specs.Laws.{IdealEvents}
 use Rattle.pair_core.specs.Duo.{DuoState}
 
 -- some ended fit has these counts, these events, this verdict and so many words
-pub record IsAnswer (program : SharedProgram) (input : List ℕ) (limits : Limits) (upsets : Upsets) (events : List Event) (ran : Ran) : Type 0 where
-  pub ended : EndedFit program input limits upsets ran.lead_steps ran.trail_steps
+pub record IsAnswer (setting : Setting) (upsets : Upsets) (events : List Event) (ran : Ran) : Type 0 where
+  pub ended : EndedFit setting upsets ran.lead_steps ran.trail_steps
   pub written : ended.fit.lead.events ≡ events
   pub verdict : ran.verdict ≡ verdict_of_ends ended.lead_end ended.trail_end
   pub words : ran.words ≡ length ended.fit.lead.sent
@@ -32,10 +31,10 @@ verdict_as (SourceExit status) = ExitVerdict status
 verdict_as (SourceTrap trap line) = stopped_by (is_budget trap) trap line
 
 -- the events come first in the ideal run, and where none failed they are all of them, with its end
-pub record FollowsIdeal (program : SharedProgram) (input : List ℕ) (limits : Limits) (events : List Event) (ran : Ran) : Type 0 where
-  pub first : IdealEvents program input limits events
+pub record FollowsIdeal (setting : Setting) (events : List Event) (ran : Ran) : Type 0 where
+  pub first : IdealEvents setting events
   pub whole : (ran.verdict ≡ FaultVerdict)
-      ⊎ ((end : SourceEnd) × (words : List ℕ) × IsIdeal program input limits words events end × (ran.verdict ≡ verdict_as end))
+      ⊎ ((end : SourceEnd) × (words : List ℕ) × IsIdeal setting words events end × (ran.verdict ≡ verdict_as end))
 
 -- what a state in which both sides have ended so is answered as
 abbrev pub ran_of : ThreadEnd → ThreadEnd → DuoState → Ran

@@ -1,11 +1,10 @@
 -- Both sides in one state, and what one event of the core does to it.
 use Rattle.std.specs.Prelude.{◌≡◌, ℕ, ◌+◌, Bool, true, false, ◌&&◌, not, List, [], ◌∷◌, ◌++◌, length, Option, Some, None, nat_lt}
 use Rattle.srmt_base.specs.declared.event.Event.{Event}
-use Rattle.srmt_base.specs.declared.limits.Limits.{Limits}
 use Rattle.srmt_base.specs.declared.side.Side.{Side}
 use Rattle.srmt_base.specs.declared.side.Side.TheVariants.{Lead, Trail}
 use Rattle.mid_code.specs.Classes.{SharedProgram}
-use Rattle.world.specs.World.{WorldState, opened}
+use Rattle.world.specs.World.{WorldState, opened, Setting}
 use Rattle.machine.specs.declared.stepped.Stepped.{Stepped}
 use Rattle.machine.specs.declared.stepped.Stepped.TheVariants.{Made, NotYet, MadeLast}
 use Rattle.machine.specs.Side.{SideState, Meet, Plain, Got, Closed, Failed, Outcome, Went, Ended, StepGives, opening}
@@ -28,11 +27,11 @@ pub record DuoState : Type 0 where
   -- whether an upset was applied
   pub applied : Bool
 
-abbrev pub opening_duo : SharedProgram → List ℕ → Limits → DuoState
-opening_duo program input limits = record {
-  lead = Went (opening program limits);
-  trail = Went (opening program limits);
-  world = opened program.program input limits;
+abbrev pub opening_duo : Setting → DuoState
+opening_duo setting = record {
+  lead = Went (opening setting.program setting.limits);
+  trail = Went (opening setting.program setting.limits);
+  world = opened setting;
   words = [];
   acks = [];
   lead_steps = 0;
@@ -194,10 +193,10 @@ run_on program upsets sofar (entry ∷ entries) =
     run_on program upsets (record { duo = turned.state; events = sofar.events ++ turned.events }) entries
 
 -- the run of a schedule from the opening
-abbrev pub scheduled : SharedProgram → List ℕ → Limits → Upsets → List Entry → Scheduled
-scheduled program input limits upsets entries = run_on program upsets (record { duo = opening_duo program input limits; events = [] }) entries
+abbrev pub scheduled : Setting → Upsets → List Entry → Scheduled
+scheduled setting upsets entries = run_on setting.program upsets (record { duo = opening_duo setting; events = [] }) entries
 
 -- some schedule leads here, with these events in all
-abbrev pub Reached : SharedProgram → List ℕ → Limits → Upsets → DuoState → List Event → Type 0
-Reached program input limits upsets duo events =
-    (entries : List Entry) × (scheduled program input limits upsets entries ≡ record { duo = duo; events = events })
+abbrev pub Reached : Setting → Upsets → DuoState → List Event → Type 0
+Reached setting upsets duo events =
+    (entries : List Entry) × (scheduled setting upsets entries ≡ record { duo = duo; events = events })

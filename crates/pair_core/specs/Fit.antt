@@ -1,8 +1,7 @@
 -- Two histories that fit together: each side has taken first what the other sent first.
 use Rattle.std.specs.Prelude.{◌≡◌, ℕ, List, ◌++◌}
-use Rattle.srmt_base.specs.declared.limits.Limits.{Limits}
 use Rattle.srmt_base.specs.declared.side.Side.TheVariants.{Lead, Trail}
-use Rattle.mid_code.specs.Classes.{SharedProgram}
+use Rattle.world.specs.World.{Setting}
 use Rattle.verdicts.specs.declared.thread_end.ThreadEnd.{ThreadEnd}
 use Rattle.verdicts.specs.declared.thread_end.ThreadEnd.TheVariants.{PeerEnded}
 use Rattle.machine.specs.Side.{Outcome, Ended}
@@ -19,11 +18,11 @@ IsOver at = (end : ThreadEnd) × (at ≡ Ended end)
 
 -- the leading side after n counted steps and the trailing side after m. No order of their steps, no
 -- batch and no index occurs here
-pub record Fit (program : SharedProgram) (input : List ℕ) (limits : Limits) (upsets : Upsets) (n m : ℕ) : Type 0 where
+pub record Fit (setting : Setting) (upsets : Upsets) (n m : ℕ) : Type 0 where
   pub lead : Past
   pub trail : Past
-  pub lead_past : HasPast program input limits upsets Lead n lead
-  pub trail_past : HasPast program input limits upsets Trail m trail
+  pub lead_past : HasPast setting upsets Lead n lead
+  pub trail_past : HasPast setting upsets Trail m trail
   pub words : IsPrefix trail.took lead.sent
   pub acks : IsPrefix lead.took trail.sent
   -- a side that found its link closed has taken all that the other sent, and the other has ended
@@ -31,8 +30,8 @@ pub record Fit (program : SharedProgram) (input : List ℕ) (limits : Limits) (u
   pub trail_closed : trail.at ≡ Ended PeerEnded → (trail.took ≡ lead.sent) × IsOver lead.at
 
 -- a fit in which both sides have ended
-pub record EndedFit (program : SharedProgram) (input : List ℕ) (limits : Limits) (upsets : Upsets) (n m : ℕ) : Type 0 where
-  pub fit : Fit program input limits upsets n m
+pub record EndedFit (setting : Setting) (upsets : Upsets) (n m : ℕ) : Type 0 where
+  pub fit : Fit setting upsets n m
   pub lead_end : ThreadEnd
   pub trail_end : ThreadEnd
   pub lead_over : fit.lead.at ≡ Ended lead_end

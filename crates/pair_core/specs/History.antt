@@ -1,10 +1,9 @@
 -- The history of one side: what its counted steps have come to, whatever the other side did.
 use Rattle.std.specs.Prelude.{◌≡◌, ℕ, zero, suc, Bool, false, List, [], ◌∷◌, ◌++◌}
 use Rattle.srmt_base.specs.declared.event.Event.{Event}
-use Rattle.srmt_base.specs.declared.limits.Limits.{Limits}
 use Rattle.srmt_base.specs.declared.side.Side.{Side}
 use Rattle.mid_code.specs.Classes.{SharedProgram}
-use Rattle.world.specs.World.{WorldState, opened}
+use Rattle.world.specs.World.{WorldState, opened, Setting}
 use Rattle.machine.specs.Side.{SideState, Meet, Plain, Got, Closed, Failed, Outcome, Went, StepGives, opening}
 use Rattle.machine.specs.Meets.{next_of, CanMeet}
 use Rattle.machine.specs.Upset.{Upset, Upsets, upsets_of, struck_by, applied_by}
@@ -19,10 +18,10 @@ pub record Past : Type 0 where
   pub events : List Event
   pub applied : Bool
 
-abbrev pub opening_past : SharedProgram → List ℕ → Limits → Past
-opening_past program input limits = record {
-  at = Went (opening program limits);
-  world = opened program.program input limits;
+abbrev pub opening_past : Setting → Past
+opening_past setting = record {
+  at = Went (opening setting.program setting.limits);
+  world = opened setting;
   took = [];
   sent = [];
   events = [];
@@ -65,8 +64,8 @@ pub record IsStep (program : SharedProgram) (side : Side) (before past : Past) :
   pub grows : past ≡ grown before meet (next_of side program stood before.world meet)
 
 -- after so many counted steps, and with these upsets, a side can have come to this
-abbrev pub HasPast : SharedProgram → List ℕ → Limits → Upsets → Side → ℕ → Past → Type 0
-HasPast program input limits upsets side zero past = past ≡ opening_past program input limits
-HasPast program input limits upsets side (suc steps) past =
-    (before : Past) × HasPast program input limits upsets side steps before ×
-    IsStep program side (ready (upsets_of side upsets) (suc steps) before) past
+abbrev pub HasPast : Setting → Upsets → Side → ℕ → Past → Type 0
+HasPast setting upsets side zero past = past ≡ opening_past setting
+HasPast setting upsets side (suc steps) past =
+    (before : Past) × HasPast setting upsets side steps before ×
+    IsStep setting.program side (ready (upsets_of side upsets) (suc steps) before) past

@@ -5,6 +5,7 @@ use Rattle.srmt_base.specs.declared.side.Side.{Side}
 use Rattle.srmt_base.specs.declared.side.Side.TheVariants.{Lead, Trail}
 use Rattle.mid_code.specs.Classes.{SharedProgram}
 use Rattle.verdicts.specs.declared.thread_end.ThreadEnd.{ThreadEnd}
+use Rattle.world.specs.World.{setting_of}
 use Rattle.machine.specs.declared.stepped.Stepped.{Stepped}
 use Rattle.machine.specs.declared.stepped.Stepped.TheVariants.{Made, NotYet, MadeLast}
 use Rattle.machine.specs.Side.{Ended}
@@ -32,4 +33,4 @@ IsRan duo ran = (lead : ThreadEnd) × (trail : ThreadEnd) × (duo.lead ≡ Ended
 
 -- nothing was done yet
 abbrev pub IsOpening : SharedProgram → DuoState → Type 0
-IsOpening program duo = (input : List ℕ) × (limits : Limits) × (duo ≡ opening_duo program input limits)
+IsOpening program duo = (input : List ℕ) × (limits : Limits) × (duo ≡ opening_duo (setting_of program input limits))

@@ -1,13 +1,13 @@
 -- What holds after every schedule.
 use Rattle.std.specs.Prelude.{◌≡◌, ℕ, ◌+◌, ◌⊎◌, ◌≢◌, ◌||◌, List, [], ◌∷◌, ◌++◌, length, None}
 use Rattle.srmt_base.specs.declared.event.Event.{Event}
-use Rattle.srmt_base.specs.declared.limits.Limits.{Limits}
 use Rattle.srmt_base.specs.declared.side.Side.{Side}
 use Rattle.srmt_base.specs.declared.side.Side.TheVariants.{Lead, Trail}
 use Rattle.srmt_base.specs.declared.trap.SourceEnd.{SourceEnd}
 use Rattle.srmt_base.specs.declared.trap.SourceEnd.TheVariants.{Exit as SourceExit, Trap as SourceTrap}
 use Rattle.mid_code.specs.Classes.{SharedProgram}
 use Rattle.mid_code.specs.Pairs.{HasSites}
+use Rattle.world.specs.World.{Setting}
 use Rattle.world.specs.Ideal.{ideal, IsIdeal}
 use Rattle.verdicts.specs.declared.thread_end.ThreadEnd.{ThreadEnd}
 use Rattle.verdicts.specs.declared.thread_end.ThreadEnd.TheVariants.{Exit, Trap, Mismatch, Echo, WriteFault}
@@ -34,18 +34,18 @@ IsClean (Went s) = Unit {0}
 IsClean (Ended end) = IsCleanEnd end
 
 -- the ideal run has come to a point at which it has written these words, or these events, first
-abbrev pub IdealWords : SharedProgram → List ℕ → Limits → List ℕ → Type 0
-IdealWords program input limits words = (steps : ℕ) × IsPrefix words (ideal program input limits steps).words
+abbrev pub IdealWords : Setting → List ℕ → Type 0
+IdealWords setting words = (steps : ℕ) × IsPrefix words (ideal setting steps).words
 
-abbrev pub IdealEvents : SharedProgram → List ℕ → Limits → List Event → Type 0
-IdealEvents program input limits events = (steps : ℕ) × IsPrefix events (ideal program input limits steps).events
+abbrev pub IdealEvents : Setting → List Event → Type 0
+IdealEvents setting events = (steps : ℕ) × IsPrefix events (ideal setting steps).events
 
 -- both sides have ended as the ideal run does, and all its words and events are there
-pub record AsIdeal (program : SharedProgram) (input : List ℕ) (limits : Limits) (lead trail : ThreadEnd) (words : List ℕ) (events : List Event) : Type 0 where
+pub record AsIdeal (setting : Setting) (lead trail : ThreadEnd) (words : List ℕ) (events : List Event) : Type 0 where
   pub end : SourceEnd
   pub lead_end : lead ≡ end_as end
   pub trail_end : trail ≡ end_as end
-  pub whole : IsIdeal program input limits words events end
+  pub whole : IsIdeal setting words events end
 
 -- the side has not ended, and its next step is possible
 pub record CanGo (program : SharedProgram) (upsets : Upsets) (side : Side) (duo : DuoState) : Type 0 where
@@ -62,8 +62,8 @@ IsOnWay (Went s) sent took way = sent ≡ took ++ way
 IsOnWay (Ended end) sent took way = IsPrefix (took ++ way) sent
 
 -- the state is a fit at its own two counts
-pub record IsFitState (program : SharedProgram) (input : List ℕ) (limits : Limits) (upsets : Upsets) (duo : DuoState) (events : List Event) : Type 0 where
-  pub fit : Fit program input limits upsets duo.lead_steps duo.trail_steps
+pub record IsFitState (setting : Setting) (upsets : Upsets) (duo : DuoState) (events : List Event) : Type 0 where
+  pub fit : Fit setting upsets duo.lead_steps duo.trail_steps
   pub lead : Past
   pub trail : Past
   pub lead_now : IsNow (upsets_of Lead upsets) duo.lead_steps fit.lead lead
@@ -80,10 +80,10 @@ pub record IsFitState (program : SharedProgram) (input : List ℕ) (limits : Lim
 
 -- what was sent and what was written comes first in the ideal run, and neither side has found a
 -- difference; a word that was sent is never dropped
-pub record FollowsIdealRun (program : SharedProgram) (input : List ℕ) (limits : Limits) (duo : DuoState) (lead trail : Past)
+pub record FollowsIdealRun (setting : Setting) (duo : DuoState) (lead trail : Past)
     (events : List Event) : Type 0 where
-  pub ideal_words : IdealWords program input limits lead.sent
-  pub ideal_events : IdealEvents program input limits events
+  pub ideal_words : IdealWords setting lead.sent
+  pub ideal_events : IdealEvents setting events
   pub lead_clean : IsClean duo.lead
   pub trail_clean : IsClean duo.trail
   pub words : lead.sent ≡ trail.took ++ duo.words
@@ -91,18 +91,18 @@ pub record FollowsIdealRun (program : SharedProgram) (input : List ℕ) (limits 
 
 -- where both sides have ended and there was no upset, an event has failed, or the ends are equal and
 -- the ideal run's; and the core never stands still
-pub record EndsWell (program : SharedProgram) (input : List ℕ) (limits : Limits) (upsets : Upsets) (duo : DuoState) (words : List ℕ)
+pub record EndsWell (setting : Setting) (upsets : Upsets) (duo : DuoState) (words : List ℕ)
     (events : List Event) : Type 0 where
   pub ends : IsNone upsets → (lead trail : ThreadEnd) → duo.lead ≡ Ended lead → duo.trail ≡ Ended trail →
-      (lead ≡ WriteFault) ⊎ AsIdeal program input limits lead trail words events
-  pub goes : CanGo program upsets Lead duo ⊎ CanGo program upsets Trail duo ⊎ (IsOver duo.lead × IsOver duo.trail)
+      (lead ≡ WriteFault) ⊎ AsIdeal setting lead trail words events
+  pub goes : CanGo setting.program upsets Lead duo ⊎ CanGo setting.program upsets Trail duo ⊎ (IsOver duo.lead × IsOver duo.trail)
 
 -- what holds of a state that a schedule leads to: it is a fit, it follows the ideal run where there is
 -- no upset, and its ends are right
-pub record Sound (program : SharedProgram) (input : List ℕ) (limits : Limits) (upsets : Upsets) (duo : DuoState) (events : List Event) : Type 0 where
-  pub fits : IsFitState program input limits upsets duo events
-  pub follows : IsNone upsets → FollowsIdealRun program input limits duo fits.fit.lead fits.fit.trail events
-  pub ends_well : EndsWell program input limits upsets duo fits.fit.lead.sent events
+pub record Sound (setting : Setting) (upsets : Upsets) (duo : DuoState) (events : List Event) : Type 0 where
+  pub fits : IsFitState setting upsets duo events
+  pub follows : IsNone upsets → FollowsIdealRun setting duo fits.fit.lead fits.fit.trail events
+  pub ends_well : EndsWell setting upsets duo fits.fit.lead.sent events
 
 -- the outlet fails in no event of the schedule
 abbrev pub NoneFails : List Entry → Type 0
@@ -110,7 +110,7 @@ NoneFails [] = Unit {0}
 NoneFails (entry ∷ entries) = (entry.fails ≡ None) × NoneFails entries
 
 -- what holds of whatever a schedule without upset leads to
-abbrev pub OverSchedules : (SharedProgram → List ℕ → Limits → Scheduled → Type 0) → Type 0
+abbrev pub OverSchedules : (Setting → Scheduled → Type 0) → Type 0
 OverSchedules Holds =
-    (program : SharedProgram) (input : List ℕ) (limits : Limits) (entries : List Entry) → HasSites program →
-    Holds program input limits (scheduled program input limits no_upsets entries)
+    (setting : Setting) (entries : List Entry) → HasSites setting.program →
+    Holds setting (scheduled setting no_upsets entries)

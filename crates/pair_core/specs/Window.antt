@@ -1,6 +1,5 @@
 -- Where an upset may write a wrong byte that no comparison finds any more: its window.
 use Rattle.std.specs.Prelude.{◌≡◌, ℕ, ◌-◌, List, ◌∷◌, ◌++◌, Option, Some, length, slice_get}
-use Rattle.srmt_base.specs.declared.limits.Limits.{Limits}
 use Rattle.srmt_base.specs.declared.side.Side.TheVariants.{Lead}
 use Rattle.srmt_base.specs.declared.word.Site.{Site}
 use Rattle.mid_code.specs.Classes.{SharedProgram}
@@ -10,6 +9,7 @@ use Rattle.mid_code.specs.Versions.{operands_list}
 use Rattle.mid_code.specs.declared.version.VersionLine.{VersionLine}
 use Rattle.mid_code.specs.declared.version.VersionOp.TheVariants.{Act}
 use Rattle.mid_code.specs.Machine.{activations}
+use Rattle.world.specs.World.{Setting}
 use Rattle.world.specs.Ideal.{ideal}
 use Rattle.machine.specs.Side.{SideState, Went}
 use Rattle.machine.specs.Steps.{side_op}
@@ -18,8 +18,8 @@ use Rattle.pair_core.specs.History.{Past, ready, HasPast}
 use Rattle.pair_core.specs.Fit.{IsPrefix}
 
 -- the ideal run acknowledges these words first
-abbrev pub IdealEchoes : SharedProgram → List ℕ → Limits → List ℕ → Type 0
-IdealEchoes program input limits acks = (steps : ℕ) × IsPrefix acks (ideal program input limits steps).echoes
+abbrev pub IdealEchoes : Setting → List ℕ → Type 0
+IdealEchoes setting acks = (steps : ℕ) × IsPrefix acks (ideal setting steps).echoes
 
 -- the side stands at an ACT, and the target is one of its operands, which are registers of the newest activation
 pub record IsOperand (program : SharedProgram) (s : SideState) (upset : Upset) : Type 0 where
@@ -39,20 +39,20 @@ pub record IsOperand (program : SharedProgram) (s : SideState) (upset : Upset) :
 -- an upset of the leading side, by those that strike before it: some history that takes the
 -- acknowledgements of the ideal run, and in which no event fails, leads to where the side stands at an
 -- ACT and the upset replaces one of its operands
-pub record InWindow (program : SharedProgram) (input : List ℕ) (limits : Limits) (before : List Upset) (upset : Upset) : Type 0 where
+pub record InWindow (setting : Setting) (before : List Upset) (upset : Upset) : Type 0 where
   pub past : Past
-  pub so_far : HasPast program input limits (record { side = Lead; list = before }) Lead (upset.step - 1) past
-  pub acks : IdealEchoes program input limits past.took
+  pub so_far : HasPast setting (record { side = Lead; list = before }) Lead (upset.step - 1) past
+  pub acks : IdealEchoes setting past.took
   pub side : SideState
   -- it has not ended, so no event has failed
   pub goes : (ready before upset.step past).at ≡ Went side
-  pub operand : IsOperand program side upset
+  pub operand : IsOperand setting.program side upset
 
 -- some upset of a run stands in its window
-pub record AnyInWindow (program : SharedProgram) (input : List ℕ) (limits : Limits) (upsets : Upsets) : Type 0 where
+pub record AnyInWindow (setting : Setting) (upsets : Upsets) : Type 0 where
   pub before : List Upset
   pub upset : Upset
   pub behind : List Upset
   pub leading : upsets.side ≡ Lead
   pub among : upsets.list ≡ before ++ upset ∷ behind
-  pub window : InWindow program input limits before upset
+  pub window : InWindow setting before upset

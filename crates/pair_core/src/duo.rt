@@ -3,6 +3,7 @@ ghost use Rattle.srmt_base.specs.declared.event.Event.{Event};
 ghost use Rattle.srmt_base.specs.declared.side.Side.TheVariants.{Lead, Trail};
 ghost use Rattle.mid_code.specs.Start.{FitLimits};
 ghost use Rattle.srmt_outside.specs.Told.{Appends};
+ghost use Rattle.world.specs.World.{setting_of};
 ghost use Rattle.machine.specs.OneStep.{last_of, sent_of};
 ghost use Rattle.machine.specs.Upset.{no_upsets};
 ghost use Rattle.pair_core.specs.Duo.{opening_duo, put_on};
@@ -94,7 +95,7 @@ impl Duo {
         limits: Limits,
     ) -> Result<Duo, AllocError>
         requires { FitLimits pair.now.program limits }
-        ensures opening { IfOk result (λ duo. duo ≡ opening_duo pair.now input.items limits) }
+        ensures opening { IfOk result (λ duo. duo ≡ opening_duo (setting_of pair.now input.items limits)) }
         ensures fits { IfOk result (DuoFits pair.now) }
     {
         Ok(Duo {

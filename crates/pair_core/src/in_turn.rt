@@ -2,6 +2,7 @@ ghost use Rattle.std.specs.Prelude.{◌≡◌, ℕ, List};
 ghost use Rattle.srmt_base.specs.declared.event.Event.{Event};
 ghost use Rattle.srmt_base.specs.declared.limits.Limits.{Limits};
 ghost use Rattle.srmt_outside.specs.Told.{Appends};
+ghost use Rattle.world.specs.World.{setting_of};
 ghost use Rattle.machine.specs.declared.stepped.Stepped.{Stepped};
 ghost use Rattle.machine.specs.Upset.{no_upsets};
 ghost use Rattle.pair_core.specs.Duo.{opening_duo};
@@ -21,10 +22,10 @@ use verdicts::Ran;
 /// trailing side, and so on. The Duo is as `start` gave it. Takes no memory.
 pub fn alternate<O: Outlet>(duo: &mut Duo, pair: &Pair, outlet: &mut O) -> Ran
     requires { IsOpening pair.now duo.old }
-    ensures answer { (input : List ℕ) (limits : Limits) → duo.old ≡ opening_duo pair.now input limits
+    ensures answer { (input : List ℕ) (limits : Limits) → let setting = setting_of pair.now input limits in
+        duo.old ≡ opening_duo setting
         → (events : List Event) × Appends (O.events outlet.old) (O.events outlet.new) events
-        × IsAnswer pair.now input limits no_upsets events result
-        × FollowsIdeal pair.now input limits events result }
+        × IsAnswer setting no_upsets events result × FollowsIdeal setting events result }
 
     // The verdict is a fault of the outlet exactly where the outlet has counted one.
     ensures faults { O.faults outlet.new ≡ faults_told result.verdict (O.faults outlet.old) }

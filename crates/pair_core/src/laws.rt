@@ -1,9 +1,8 @@
 ghost use Rattle.std.specs.Prelude.{List, ℕ, ◌≢◌};
 ghost use Rattle.srmt_base.specs.declared.event.Event.{Event};
-ghost use Rattle.srmt_base.specs.declared.limits.Limits.{Limits};
 ghost use Rattle.srmt_base.specs.declared.trap.SourceEnd.{SourceEnd};
-ghost use Rattle.mid_code.specs.Classes.{SharedProgram};
 ghost use Rattle.mid_code.specs.Pairs.{HasSites};
+ghost use Rattle.world.specs.World.{Setting};
 ghost use Rattle.world.specs.Ideal.{IsIdeal};
 ghost use Rattle.verdicts.specs.declared.thread_end.ThreadEnd.TheVariants.{WriteFault};
 ghost use Rattle.machine.specs.Side.{Ended};
@@ -19,20 +18,15 @@ ghost use Rattle.pair_core.specs.Laws.{IdealWords, IdealEvents, Sound, NoneFails
 /// The counts stay below 2^62. The leading side ends by an event that failed only where one did, and
 /// the trailing side never.
 pub fn over_every_schedule()
-    ensures sound { OverSchedules (λ program input limits run.
-        Sound program input limits no_upsets run.duo run.events) }
-    ensures bounded { OverSchedules (λ program input limits run. IsCountable run.duo) }
-    ensures no_fault { (program : SharedProgram) (input : List ℕ) (limits : Limits) (entries : List Entry)
-        → NoneFails entries
-        → (scheduled program input limits no_upsets entries).duo.lead ≢ Ended WriteFault }
-    ensures trail_no_fault { OverSchedules (λ program input limits run.
-        run.duo.trail ≢ Ended WriteFault) }
-    ensures all_words { (program : SharedProgram) (input : List ℕ) (limits : Limits) (words whole : List ℕ)
-        (events : List Event) (end : SourceEnd) → HasSites program
-        → IdealWords program input limits words → IsIdeal program input limits whole events end
+    ensures sound { OverSchedules (λ setting run. Sound setting no_upsets run.duo run.events) }
+    ensures bounded { OverSchedules (λ setting run. IsCountable run.duo) }
+    ensures no_fault { (setting : Setting) (entries : List Entry) → NoneFails entries
+        → (scheduled setting no_upsets entries).duo.lead ≢ Ended WriteFault }
+    ensures trail_no_fault { OverSchedules (λ setting run. run.duo.trail ≢ Ended WriteFault) }
+    ensures all_words { (setting : Setting) (words whole : List ℕ) (events : List Event) (end : SourceEnd)
+        → HasSites setting.program → IdealWords setting words → IsIdeal setting whole events end
         → IsPrefix words whole }
-    ensures all_events { (program : SharedProgram) (input : List ℕ) (limits : Limits)
-        (events whole : List Event) (words : List ℕ) (end : SourceEnd) → HasSites program
-        → IdealEvents program input limits events → IsIdeal program input limits words whole end
+    ensures all_events { (setting : Setting) (events whole : List Event) (words : List ℕ) (end : SourceEnd)
+        → HasSites setting.program → IdealEvents setting events → IsIdeal setting words whole end
         → IsPrefix events whole }
 {}

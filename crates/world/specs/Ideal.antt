@@ -4,12 +4,11 @@ use Rattle.std.specs.Prelude.{◌≡◌, ℕ, zero, suc, Bool, true, false, List
 use Rattle.srmt_base.specs.declared.event.Event.{Event}
 use Rattle.srmt_base.specs.declared.trap.SourceEnd.{SourceEnd}
 use Rattle.srmt_base.specs.declared.trap.SourceEnd.TheVariants.{Trap as TrapEnd}
-use Rattle.srmt_base.specs.declared.limits.Limits.{Limits}
 use Rattle.mid_code.specs.Classes.{SharedProgram}
 use Rattle.word_stream.specs.declared.request.Request.{Request}
 use Rattle.word_stream.specs.declared.request.Response.{Response}
 use Rattle.word_stream.specs.Exchange.{is_guarded, checks_of, acks_of, response_words, exchange}
-use Rattle.world.specs.World.{WorldState, Asked, ask, opened}
+use Rattle.world.specs.World.{WorldState, Setting, Asked, ask, opened}
 use Rattle.world.specs.Standing.{Standing, started_standing}
 use Rattle.world.specs.Requests.{Wants, Runs, Dies, Requests, Lost, wants, Resumed, Back, Over, resume}
 
@@ -33,10 +32,10 @@ pub record IdealState : Type 0 where
   pub events : List Event
 
 -- at the start `main` is entered and nothing was asked
-abbrev pub ideal_opening : SharedProgram → List ℕ → Limits → IdealState
-ideal_opening program input limits = record {
-  place = Here (started_standing program.program limits);
-  world = opened program.program input limits;
+abbrev pub ideal_opening : Setting → IdealState
+ideal_opening setting = record {
+  place = Here (started_standing setting.program.program setting.limits);
+  world = opened setting;
   words = [];
   echoes = [];
   events = [];
@@ -93,13 +92,13 @@ abbrev pub ideal_next : SharedProgram → IdealState → IdealState
 ideal_next program c = next_by c.place program c
 
 -- the ideal run after so many steps
-abbrev pub ideal : SharedProgram → List ℕ → Limits → ℕ → IdealState
-ideal program input limits zero = ideal_opening program input limits
-ideal program input limits (suc before) = ideal_next program (ideal program input limits before)
+abbrev pub ideal : Setting → ℕ → IdealState
+ideal setting zero = ideal_opening setting
+ideal setting (suc before) = ideal_next setting.program (ideal setting before)
 
 -- the ideal run ends so, with these words and these events in all
-pub record IsIdeal (program : SharedProgram) (input : List ℕ) (limits : Limits) (words : List ℕ) (events : List Event) (end : SourceEnd) : Type 0 where
+pub record IsIdeal (setting : Setting) (words : List ℕ) (events : List Event) (end : SourceEnd) : Type 0 where
   pub steps : ℕ
-  pub ended : (ideal program input limits steps).place ≡ Ended end
-  pub words_so : (ideal program input limits steps).words ≡ words
-  pub events_so : (ideal program input limits steps).events ≡ events
+  pub ended : (ideal setting steps).place ≡ Ended end
+  pub words_so : (ideal setting steps).words ≡ words
+  pub events_so : (ideal setting steps).events ≡ events

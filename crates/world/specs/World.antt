@@ -3,7 +3,7 @@ use Rattle.std.specs.Prelude.{ℕ, ◌%◌, Bool, true, false, List, [], ◌∷�
 use Rattle.srmt_base.specs.declared.event.Event.{Event}
 use Rattle.srmt_base.specs.declared.event.Event.TheVariants.{Byte, Exit as ExitEvent}
 use Rattle.srmt_base.specs.declared.limits.Limits.{Limits}
-use Rattle.mid_code.specs.declared.program.MidProgram.{MidProgram}
+use Rattle.mid_code.specs.Classes.{SharedProgram}
 use Rattle.word_stream.specs.declared.request.Request.{Request}
 use Rattle.word_stream.specs.declared.request.Request.TheVariants.{Put, Exit}
 use Rattle.word_stream.specs.declared.request.Response.{Response}
@@ -24,9 +24,18 @@ abbrev pub is_live : WorldState → Bool
 is_live (Lives inside) = true
 is_live Over = false
 
+-- what a run is of: a program with what is shared of it, its input and its limits
+pub record Setting : Type 0 where
+  pub program : SharedProgram
+  pub input : List ℕ
+  pub limits : Limits
+
+abbrev pub setting_of : SharedProgram → List ℕ → Limits → Setting
+setting_of program input limits = record { program = program; input = input; limits = limits }
+
 -- the world in which a program starts
-abbrev pub opened : MidProgram → List ℕ → Limits → WorldState
-opened program input limits = Lives (record { input = input })
+abbrev pub opened : Setting → WorldState
+opened setting = Lives (record { input = setting.input })
 
 -- what a request leads to: the world after it, the response, and the events that it gives
 pub record Asked : Type 0 where

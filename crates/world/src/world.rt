@@ -3,7 +3,7 @@ ghost use Rattle.srmt_outside.specs.Count.{next_count};
 ghost use Rattle.srmt_outside.specs.Told.{Appends};
 ghost use Rattle.mid_code.specs.Start.{FitLimits};
 ghost use Rattle.world.specs.Written.{AppendsSome};
-ghost use Rattle.world.specs.World.{Over, is_live, opened, ask};
+ghost use Rattle.world.specs.World.{Over, is_live, setting_of, opened, ask};
 
 use mid_code::Pair;
 use srmt_base::{Event, Limits};
@@ -38,7 +38,7 @@ impl World {
         _limits: Limits,
     ) -> Result<World, AllocError>
         requires { FitLimits _pair.now.program _limits }
-        ensures { IfOk result (λ world. world ≡ opened _pair.now.program input.items _limits) }
+        ensures { IfOk result (λ world. world ≡ opened (setting_of _pair.now input.items _limits)) }
     {
         Ok(World { live: true, input })
     }

@@ -1,5 +1,6 @@
 use Rattle.std.proofs.Common.{◌<◌, false, [], ◌++◌, sym, ap, ◌∙◌, subst}
 use Rattle.srmt_outside.proofs.Told.{Appends-nothing, Appends-both}
+use Rattle.world.specs.World.{setting_of}
 use Rattle.machine.specs.Upset.{no_upsets}
 use Rattle.pair_core.proofs.Alternating.{turns_left, countable, answered_so, opening_fits}
 use Rattle.pair_core.proofs.MoreTurns.{on_lower, on_reach}
@@ -14,12 +15,12 @@ use Rattle.pair_core.proofs.in_turn.alternate.Goals as goal
 pub returns-in-Some-clause-answer : goal.returns-in-Some-clause-answer
 returns-in-Some-clause-answer g c = λ input limits opening.
     let so_far = c.loop-ran.invariant.reached input limits opening in
-    let answer = answered_so c.args.pair.now input limits c.loop-ran.duo so_far.0 c.classed-classed.ensures.sites so_far.2 c.in-Some.ran c.in-Some.ensures in
+    let answer = answered_so (setting_of c.args.pair.now input limits) c.loop-ran.duo so_far.0 c.classed-classed.ensures.sites so_far.2 c.in-Some.ran c.in-Some.ensures in
     (so_far.0, so_far.1, answer.0, answer.1)
 
 pub loop-ran-init : goal.loop-ran-init
 loop-ran-init g c = record {
-  reached = λ input limits opening. ([], Appends-nothing _, subst (λ d. Reached c.args.pair.now input limits no_upsets d []) (sym opening) (reached_opening c.args.pair.now input limits));
+  reached = λ input limits opening. ([], Appends-nothing _, subst (λ d. Reached (setting_of c.args.pair.now input limits) no_upsets d []) (sym opening) (reached_opening (setting_of c.args.pair.now input limits)));
   fits = opening_fits c.args.pair.now c.args.duo.now c.classed-classed.ensures.sites c.requires;
   faults = ap (λ (d : DuoState). faults_turned false (has_failed d.lead) (g.O.Outlet.faults c.args.outlet.now)) (sym c.requires.2);
 }
@@ -28,7 +29,7 @@ pub turn-side-requires-clause-countable : goal.turn-side-requires-clause-countab
 turn-side-requires-clause-countable g c =
     let opening = c.requires in
     let so_far = c.loop-ran.invariant.reached opening.0 opening.1 opening.2 in
-    countable c.args.pair.now opening.0 opening.1 c.loop-ran.duo so_far.0 c.classed-classed.ensures.sites so_far.2
+    countable (setting_of c.args.pair.now opening.0 opening.1) c.loop-ran.duo so_far.0 c.classed-classed.ensures.sites so_far.2
 
 pub loop-ran-smaller : goal.loop-ran-smaller
 loop-ran-smaller g c =
@@ -36,7 +37,7 @@ loop-ran-smaller g c =
     let so_far = c.loop-ran.invariant.reached opening.0 opening.1 opening.2 in
     let turn = c.turn-side.ensures.turns in
     subst (λ s. turns_left c.args.pair.now s c.turn-side.new.duo < turns_left c.args.pair.now c.loop-ran.side c.loop-ran.duo) (sym turn.4)
-    (on_lower c.args.pair.now opening.0 opening.1 c.loop-ran.duo so_far.0 so_far.2 c.loop-ran.side c.turn-side.new.duo turn.0 turn.1 turn.2 c.classed-classed.ensures.sites c.in_default.ensures)
+    (on_lower (setting_of c.args.pair.now opening.0 opening.1) c.loop-ran.duo so_far.0 so_far.2 c.loop-ran.side c.turn-side.new.duo turn.0 turn.1 turn.2 c.classed-classed.ensures.sites c.in_default.ensures)
 
 pub loop-ran-preserved : goal.loop-ran-preserved
 loop-ran-preserved g c =
@@ -46,7 +47,7 @@ loop-ran-preserved g c =
           let so_far = c.loop-ran.invariant.reached input limits opening in (
             so_far.0 ++ turn.1,
             Appends-both _ _ _ so_far.0 turn.1 so_far.1 turn.3,
-            on_reach c.args.pair.now input limits c.loop-ran.duo so_far.0 so_far.2 c.loop-ran.side c.turn-side.new.duo turn.0 turn.1 turn.2,
+            on_reach (setting_of c.args.pair.now input limits) c.loop-ran.duo so_far.0 so_far.2 c.loop-ran.side c.turn-side.new.duo turn.0 turn.1 turn.2,
           );
       fits = c.turn-side.ensures.fits;
       faults = counted_on c.loop-ran.duo.lead c.turn-side.new.duo.lead _ _ _ c.loop-ran.invariant.faults c.turn-side.ensures.faults;

@@ -7,19 +7,19 @@ use Rattle.pair_core.proofs.Faults.{no_fault_scheduled}
 use Rattle.pair_core.proofs.laws.over_every_schedule.Goals as goal
 
 pub returns-clause-sound : goal.returns-clause-sound
-returns-clause-sound c = λ program input limits entries sites. sound_scheduled program input limits sites entries
+returns-clause-sound c = λ setting entries sites. sound_scheduled setting sites entries
 
 pub returns-clause-all_words : goal.returns-clause-all_words
-returns-clause-all_words c = λ program input limits words whole events end sites first all. first_words program input limits sites words whole events end first all
+returns-clause-all_words c = λ setting words whole events end sites first all. first_words setting sites words whole events end first all
 
 pub returns-clause-all_events : goal.returns-clause-all_events
-returns-clause-all_events c = λ program input limits events whole words end sites first all. first_events program input limits sites events whole words end first all
+returns-clause-all_events c = λ setting events whole words end sites first all. first_events setting sites events whole words end first all
 
 pub returns-clause-no_fault : goal.returns-clause-no_fault
-returns-clause-no_fault c = λ program input limits entries none. no_fault_scheduled program input limits entries none
+returns-clause-no_fault c = λ setting entries none. no_fault_scheduled setting entries none
 
 pub returns-clause-bounded : goal.returns-clause-bounded
-returns-clause-bounded c = λ program input limits entries sites. countable program input limits (scheduled program input limits no_upsets entries).duo (scheduled program input limits no_upsets entries).events sites (entries, refl)
+returns-clause-bounded c = λ setting entries sites. countable setting (scheduled setting no_upsets entries).duo (scheduled setting no_upsets entries).events sites (entries, refl)
 
 pub returns-clause-trail_no_fault : goal.returns-clause-trail_no_fault
-returns-clause-trail_no_fault c = λ program input limits entries sites. no_trail_fault program input limits sites entries
+returns-clause-trail_no_fault c = λ setting entries sites. no_trail_fault setting sites entries
