@@ -1,0 +1,10 @@
+mod Runs
+mod Insides
+mod LocalItems
+mod Scalars
+mod Free
+mod Counted
+mod Adding
+mod Texts
+mod Shapes
+mod Completing

@@ -1,0 +1,4 @@
+pub mod Resolved
+mod Mains
+mod StaticLists
+mod Tables

@@ -1,0 +1,4 @@
+pub mod Wide
+pub mod ConstantLaws
+pub mod StartLaws
+pub mod Rows

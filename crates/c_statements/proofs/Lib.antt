@@ -1,0 +1,4 @@
+pub mod Giving
+pub mod Views
+pub mod PartLaws
+pub mod Conversions
