@@ -1,0 +1,13 @@
+pub mod Leaving
+pub mod PartsLeave
+pub mod DeclaratorsLeave
+pub mod TermsLeave
+pub mod BlocksSound
+pub mod UnsizedSound
+pub mod LinkageSound
+pub mod InitializersSound
+pub mod DeclarationsSound
+pub mod StatementsSound
+pub mod FunctionsSound
+pub mod StaticsSound
+pub mod UnitsSound
