@@ -1,0 +1,4 @@
+pub mod Spelled
+pub mod DeclarationsHave
+pub mod StatementsHave
+pub mod UnitsHave
