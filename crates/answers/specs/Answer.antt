@@ -8,7 +8,7 @@ use Rattle.srmt_outside.specs.declared.file_fault.FileFault.TheVariants.{Failed,
 use Rattle.verdicts.specs.declared.verdict.Verdict.{Verdict}
 use Rattle.verdicts.specs.declared.verdict.Verdict.TheVariants.{Exit as ExitVerdict, Undefined, Exhausted, Reported, WriteFault as FaultVerdict}
 use Rattle.answers.specs.declared.answer.RunAnswer.{RunAnswer}
-use Rattle.answers.specs.declared.answer.RunAnswer.TheVariants.{Alone, Ran as RanBoth, Help, Version, Usage, ReadFault, TooLong, Refused, WriteFault, OutOfMemory}
+use Rattle.answers.specs.declared.answer.RunAnswer.TheVariants.{Alone, Ran as RanBoth, Checked, Help, Version, Usage, ReadFault, TooLong, Refused, WriteFault, OutOfMemory}
 
 -- the status of a verdict
 abbrev pub verdict_status : Verdict → ℕ
@@ -27,6 +27,7 @@ end_status (Trap trap line) = if is_budget trap then 122 else 121
 abbrev pub status_of : RunAnswer → ℕ
 status_of (Alone end) = end_status end
 status_of (RanBoth ran) = verdict_status ran.verdict
+status_of Checked = 0
 status_of Help = 0
 status_of Version = 0
 status_of ReadFault = 124
@@ -46,6 +47,7 @@ abbrev pub NeverRan : RunAnswer → Type 0
 NeverRan (Alone end) = ⊥
 NeverRan (RanBoth ran) = ⊥
 NeverRan WriteFault = ⊥
+NeverRan Checked = Unit {0}
 NeverRan Help = Unit {0}
 NeverRan Version = Unit {0}
 NeverRan Usage = Unit {0}

@@ -1,4 +1,5 @@
 pub mod Answer
 pub mod Notes
 pub mod Pens
+pub mod Refusals
 pub mod Texts

@@ -11,20 +11,16 @@ use Rattle.verdicts.specs.declared.verdict.Verdict.{Verdict}
 use Rattle.verdicts.specs.declared.verdict.Verdict.TheVariants.{Exit as ExitVerdict, Undefined, Exhausted, Reported, WriteFault as FaultVerdict}
 use Rattle.answers.specs.declared.about.TheConstants.{HELP, VERSION}
 use Rattle.answers.specs.declared.answer.CompileRefusal.{CompileRefusal}
-use Rattle.answers.specs.declared.answer.CompileRefusal.TheVariants.{Form}
 use Rattle.answers.specs.declared.answer.RunAnswer.{RunAnswer}
-use Rattle.answers.specs.declared.answer.RunAnswer.TheVariants.{Alone, Ran as RanBoth, Help, Version, Usage, ReadFault, TooLong, Refused, WriteFault, OutOfMemory}
+use Rattle.answers.specs.declared.answer.RunAnswer.TheVariants.{Alone, Ran as RanBoth, Checked, Help, Version, Usage, ReadFault, TooLong, Refused, WriteFault, OutOfMemory}
 use Rattle.answers.specs.Texts.{words_text, trap_text, end_text}
+use Rattle.answers.specs.Refusals.{refusal_text}
 
 -- how the two sides differ
 abbrev pub report_text : Report → List ℕ
 report_text (Mismatch taken own) = codes "mismatch: " ++ words_text taken own
 report_text (Echo taken own) = codes "echo: " ++ words_text taken own
 report_text (Parted lead trail) = codes "parted: lead " ++ end_text lead ++ codes ", trail " ++ end_text trail
-
--- why a program is refused
-abbrev pub refusal_text : CompileRefusal → List ℕ
-refusal_text Form = codes "form"
 
 -- the line of a program that came to undefined behaviour, and of one that used up a budget
 abbrev pub undefined_line : TrapName → ℕ → List ℕ
@@ -62,6 +58,7 @@ verdict_lines FaultVerdict = codes "srmtrun: fault: output" ∷ []
 abbrev pub lines_of : RunAnswer → List (List ℕ)
 lines_of (Alone end) = end_lines end
 lines_of (RanBoth ran) = verdict_lines ran.verdict
+lines_of Checked = []
 lines_of WriteFault = codes "srmtrun: fault: output" ∷ []
 lines_of ReadFault = codes "srmtrun: fault: reading" ∷ []
 lines_of TooLong = codes "srmtrun: fault: too long" ∷ []

@@ -2,9 +2,12 @@ ghost use Rattle.std.specs.Prelude.{◌≡◌};
 ghost use Rattle.answers.specs.declared.answer.RunAnswer.TheVariants.{OutOfMemory, WriteFault};
 ghost use Rattle.answers.specs.Answer.{verdict_status, end_status, status_of, unread};
 
+use c_lexer::LexRefusal;
+use c_parser::ParseRefusal;
 use srmt_base::SourceEnd;
 use srmt_outside::{Failed, FileFault};
 use std::alloc::AllocError;
+use typing_rules::TypeRefusal;
 use verdicts::{Ran, Verdict};
 
 /// How a call has ended.
@@ -24,6 +27,8 @@ pub enum RunAnswer {
     Alone(SourceEnd),
     /// Both sides of the program ran, with this answer.
     Ran(Ran),
+    /// The program has a typing.
+    Checked,
     /// The words ask how the program is used.
     Help,
     /// The words ask which version this is.
@@ -42,11 +47,24 @@ pub enum RunAnswer {
     OutOfMemory,
 }
 
+/// A file of a program.
+#[derive(Clone, Copy, Debug, PartialEq, Eq)]
+pub enum Which {
+    Main,
+    Binary,
+}
+
 /// Why a program is refused.
 #[derive(Clone, Copy, Debug, PartialEq, Eq)]
 pub enum CompileRefusal {
     /// It is not of the first form.
     Form,
+    /// A file has no list of tokens.
+    Lex(Which, LexRefusal),
+    /// The tokens of a file are no translation unit.
+    Parse(Which, ParseRefusal),
+    /// The program has no typing.
+    Typing(TypeRefusal),
 }
 
 impl RunAnswer {
@@ -57,7 +75,7 @@ impl RunAnswer {
         match *self {
             RunAnswer::Alone(ref end) => status_of_end(end),
             RunAnswer::Ran(ref ran) => status_of_verdict(&ran.verdict),
-            RunAnswer::Help | RunAnswer::Version => 0,
+            RunAnswer::Checked | RunAnswer::Help | RunAnswer::Version => 0,
             RunAnswer::ReadFault | RunAnswer::TooLong | RunAnswer::WriteFault => 124,
             RunAnswer::OutOfMemory => 125,
             RunAnswer::Usage => 126,

@@ -13,10 +13,11 @@ mod lines;
 mod noting;
 mod parts;
 mod pen;
+mod refusals;
 #[cfg(test)]
 mod tests;
 mod texts;
 
 pub use about::{HELP, VERSION};
-pub use answer::{CompileRefusal, Finished, RunAnswer};
+pub use answer::{CompileRefusal, Finished, RunAnswer, Which};
 pub use noting::finish;

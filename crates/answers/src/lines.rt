@@ -20,6 +20,7 @@ impl<N: Sink> Pen<'_, N> {
         match *answer {
             RunAnswer::Alone(ref end) => self.source_end(end),
             RunAnswer::Ran(ref ran) => self.verdict(&ran.verdict),
+            RunAnswer::Checked => {}
             RunAnswer::WriteFault => self.line("srmtrun: fault: output"),
             RunAnswer::ReadFault => self.line("srmtrun: fault: reading"),
             RunAnswer::TooLong => self.line("srmtrun: fault: too long"),

@@ -2,9 +2,8 @@
 ghost use Rattle.std.specs.Prelude.{◌≡◌, ◌++◌, codes};
 ghost use Rattle.answers.specs.Pens.{Wrote};
 ghost use Rattle.answers.specs.Texts.{word_text, words_text, place_text, trap_text, end_text};
-ghost use Rattle.answers.specs.Notes.{report_text, refusal_text};
+ghost use Rattle.answers.specs.Notes.{report_text};
 
-use crate::answer::CompileRefusal;
 use crate::pen::Pen;
 use crate::texts::{kind_name, trap_name};
 use srmt_base::{Trap, Word};
@@ -41,7 +40,7 @@ impl<N: Sink> Pen<'_, N> {
     }
 
     /// Writes a place in the sources.
-    fn place(&mut self, line: u32)
+    pub fn place(&mut self, line: u32)
         ensures same_sink { self.new.sink.ghost_name ≡ self.old.sink.ghost_name }
         ensures wrote { Wrote N.bytes N.faults self.old.sink.now self.old.going
             self.new.sink.now self.new.going (place_text line) }
@@ -115,17 +114,6 @@ impl<N: Sink> Pen<'_, N> {
                 self.text(", trail ");
                 self.end(trail);
             }
-        }
-    }
-
-    /// Writes why a program is refused.
-    pub fn refusal(&mut self, refusal: &CompileRefusal)
-        ensures same_sink { self.new.sink.ghost_name ≡ self.old.sink.ghost_name }
-        ensures wrote { Wrote N.bytes N.faults self.old.sink.now self.old.going
-            self.new.sink.now self.new.going (refusal_text refusal.now) }
-    {
-        match *refusal {
-            CompileRefusal::Form => self.text("form"),
         }
     }
 }

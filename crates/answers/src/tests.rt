@@ -1,8 +1,11 @@
 use crate::texts::{kind_name, trap_name};
-use crate::{CompileRefusal, RunAnswer, finish};
+use crate::{CompileRefusal, RunAnswer, Which, finish};
+use c_lexer::LexRefusal;
+use c_parser::ParseRefusal;
 use srmt_base::{Kind, Site, SourceEnd, Trap, Word, pack};
 use srmt_outside::MemSink;
 use std::test::Fail;
+use typing_rules::{Size, TypeRefusal};
 use verdicts::{Ran, Report, ThreadEnd, Verdict};
 
 // An answer of both sides.
@@ -29,6 +32,16 @@ fn parted() -> RunAnswer {
 
 fn trapped(trap: Trap, line: u32) -> RunAnswer {
     RunAnswer::Alone(SourceEnd::Trap(trap, line))
+}
+
+// A main file that has no tokens.
+fn lexed(cause: LexRefusal) -> RunAnswer {
+    RunAnswer::Refused(CompileRefusal::Lex(Which::Main, cause))
+}
+
+// A program that has no typing.
+fn typed(cause: TypeRefusal) -> RunAnswer {
+    RunAnswer::Refused(CompileRefusal::Typing(cause))
 }
 
 fn word(kind: Kind, site: u16, value: u32) -> Word {
@@ -101,6 +114,62 @@ fn answers_have_their_lines(rt: HostRuntime) -> Result<(), Fail> {
             RunAnswer::Refused(CompileRefusal::Form),
             127,
             "srmtrun: refused: form\n",
+        ),
+        (RunAnswer::Checked, 0, ""),
+        (
+            lexed(LexRefusal::LiteralTooWide(22)),
+            127,
+            "srmtrun: refused: lex main LiteralTooWide at 22\n",
+        ),
+        (
+            lexed(LexRefusal::Directive(0)),
+            127,
+            "srmtrun: refused: lex main Directive at 0\n",
+        ),
+        (
+            RunAnswer::Refused(CompileRefusal::Lex(Which::Binary, LexRefusal::OpenText(7))),
+            127,
+            "srmtrun: refused: lex binary OpenText at 7\n",
+        ),
+        (
+            RunAnswer::Refused(CompileRefusal::Parse(Which::Binary, ParseRefusal::Expected(23))),
+            127,
+            "srmtrun: refused: parse binary Expected at 23\n",
+        ),
+        (
+            RunAnswer::Refused(CompileRefusal::Parse(Which::Main, ParseRefusal::TooDeep(222))),
+            127,
+            "srmtrun: refused: parse main TooDeep at 222\n",
+        ),
+        (
+            typed(TypeRefusal::Unresolved(2)),
+            127,
+            "srmtrun: refused: type Unresolved at line 2\n",
+        ),
+        (
+            typed(TypeRefusal::Mismatch(2_000_001, 17)),
+            127,
+            "srmtrun: refused: type Mismatch 17 at binary line 1\n",
+        ),
+        (
+            typed(TypeRefusal::Unknown(1)),
+            127,
+            "srmtrun: refused: type Unknown at line 1\n",
+        ),
+        (
+            typed(TypeRefusal::NoMain),
+            127,
+            "srmtrun: refused: type NoMain\n",
+        ),
+        (
+            typed(TypeRefusal::Mismatch(1, 7)),
+            127,
+            "srmtrun: refused: type Mismatch 7 at line 1\n",
+        ),
+        (
+            typed(TypeRefusal::TooLarge(2_000_003, Size::Cells)),
+            127,
+            "srmtrun: refused: type TooLarge Cells at binary line 3\n",
         ),
     ];
     for (answer, status, text) in rows {

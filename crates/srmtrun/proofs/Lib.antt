@@ -1,3 +1,5 @@
+pub mod Spelling
+pub mod Asking
 pub mod Limiting
 pub mod Serving
 pub mod Clauses

@@ -5,7 +5,7 @@ use Rattle.srmt_outside.specs.Count.{next_count}
 use Rattle.verdicts.specs.declared.verdict.Ran.{Ran}
 use Rattle.pair_core.specs.Faults.{faults_told}
 use Rattle.answers.specs.declared.answer.RunAnswer.{RunAnswer}
-use Rattle.answers.specs.declared.answer.RunAnswer.TheVariants.{Alone, Ran as RanBoth, Help, Version, Usage, ReadFault, TooLong, Refused, WriteFault, OutOfMemory}
+use Rattle.answers.specs.declared.answer.RunAnswer.TheVariants.{Alone, Ran as RanBoth, Checked, Help, Version, Usage, ReadFault, TooLong, Refused, WriteFault, OutOfMemory}
 
 -- a run that ended is answered by its end
 abbrev pub answer_from : Result SourceEnd RunAnswer → RunAnswer
@@ -16,12 +16,17 @@ abbrev pub both_from : Result Ran RunAnswer → RunAnswer
 both_from (Ok ran) = RanBoth ran
 both_from (Err answer) = answer
 
+abbrev pub check_from : {A : Type 0} → Result A RunAnswer → RunAnswer
+check_from (Ok program) = Checked
+check_from (Err answer) = answer
+
 -- an answer that the words alone decide: no file is asked for
 abbrev pub IsOfWords : RunAnswer → Type 0
 IsOfWords Help = Unit {0}
 IsOfWords Version = Unit {0}
 IsOfWords Usage = Unit {0}
 IsOfWords (Alone end) = ⊥
+IsOfWords Checked = ⊥
 IsOfWords (RanBoth ran) = ⊥
 IsOfWords ReadFault = ⊥
 IsOfWords TooLong = ⊥
@@ -34,6 +39,7 @@ IsOfWords OutOfMemory = ⊥
 abbrev pub write_faults_after : RunAnswer → ℕ → ℕ
 write_faults_after (Alone end) faults = faults
 write_faults_after (RanBoth ran) faults = faults_told ran.verdict faults
+write_faults_after Checked faults = faults
 write_faults_after WriteFault faults = next_count faults
 write_faults_after ReadFault faults = faults
 write_faults_after TooLong faults = faults

@@ -1,30 +1,39 @@
--- A run in one thread, from the words of the command to the events.
-use Rattle.std.specs.Prelude.{◌≡◌, ℕ, ◌<◌, ◌≤◌, ◌⊎◌, List, [], ◌∷◌, length, Option, IfSome}
+-- A call of one thread, from the words of the command to the events.
+use Rattle.std.specs.Prelude.{◌≡◌, ℕ, ◌≤◌, ◌⊎◌, List, [], ◌∷◌, length, Option, IfSome}
 use Rattle.srmt_base.specs.declared.event.Event.{Event}
 use Rattle.srmt_base.specs.declared.trap.SourceEnd.{SourceEnd}
+use Rattle.srmt_base.specs.declared.limits.Limits.{Limits}
+use Rattle.mid_code.specs.declared.program.MidProgram.{MidProgram}
 use Rattle.srmt_outside.specs.Told.{Appends, AppendsPrefix}
 use Rattle.verdicts.specs.declared.verdict.Ran.{Ran}
 use Rattle.verdicts.specs.declared.verdict.Verdict.TheVariants.{WriteFault as FaultVerdict}
 use Rattle.mid_code.specs.Closed.{everything_shared}
 use Rattle.machine.specs.Upset.{no_upsets}
+use Rattle.world.specs.World.{Setting, setting_of}
 use Rattle.pair_core.specs.Answer.{IsAnswer, verdict_as}
 use Rattle.answers.specs.declared.answer.RunAnswer.{RunAnswer}
-use Rattle.answers.specs.declared.answer.RunAnswer.TheVariants.{Alone, Ran as RanBoth, Help, Version, Usage, ReadFault, TooLong, Refused, WriteFault, OutOfMemory}
+use Rattle.answers.specs.declared.answer.RunAnswer.TheVariants.{Alone, Ran as RanBoth, Checked, Help, Version, Usage, ReadFault, TooLong, Refused, WriteFault, OutOfMemory}
+use Rattle.answers.specs.declared.answer.CompileRefusal.{CompileRefusal}
+use Rattle.answers.specs.declared.answer.CompileRefusal.TheVariants.{Form}
+use Rattle.c_typed.specs.Statements.{Program}
+use Rattle.c_front.specs.Front.{TypesFiles, RefusesFiles}
 use Rattle.first_form.specs.declared.source.FirstForm.{FirstForm}
 use Rattle.srmtrun.specs.declared.still.TheConstants.{LIMITS}
 use Rattle.srmtrun.specs.declared.words.Mode.{Mode}
-use Rattle.srmtrun.specs.declared.words.Mode.TheVariants.{Single, Alternate}
+use Rattle.srmtrun.specs.declared.words.Mode.TheVariants.{Single, Alternate, Check}
 use Rattle.first_form.specs.FirstForm.{IsFirstForm}
 use Rattle.first_form.specs.Lowered.{program_of}
 use Rattle.first_form.specs.Meaning.{events_of, end_of}
-use Rattle.srmtrun.specs.Words.{Takes}
+use Rattle.srmtrun.specs.Words.{Command, Takes}
+use Rattle.srmtrun.specs.Reads.{Contents, Wanted, names_of, PassesLimit, ReadsAll, StopsAt, AreRead}
 
--- the words are taken, and this holds of the mode and the name of the program
-pub record Names (words : List (List ℕ)) (P : Mode → List ℕ → Type 0) : Type 0 where
-  pub mode : Mode
-  pub program : List ℕ
-  pub taken : Takes words mode program
-  pub holds : P mode program
+-- the words are taken, and this holds of the command
+pub record Names (words : List (List ℕ)) (P : Command → Type 0) : Type 0 where
+  pub command : Command
+  pub taken : Takes words command
+  pub holds : P command
+
+-- ---- a source of the first form that is run
 
 -- a file that is a source of this form, with these contents where they are told
 pub record IsSource (told : Option (List ℕ)) (form : FirstForm) : Type 0 where
@@ -37,10 +46,6 @@ pub record IsSource (told : Option (List ℕ)) (form : FirstForm) : Type 0 where
 abbrev pub IsNoSource : Option (List ℕ) → Type 0
 IsNoSource told = IfSome told (λ bytes. (length bytes ≤ 1048576) × ((form : FirstForm) → IsFirstForm bytes form → ⊥))
 
--- the contents, where they are told, pass the limit
-abbrev pub IsTooLong : Option (List ℕ) → Type 0
-IsTooLong told = IfSome told (λ bytes. 1048576 < length bytes)
-
 -- the file is a source of some form, and these are all its events and its end
 abbrev pub RunsToEnd : Option (List ℕ) → Option (List Event) → Option (List Event) → SourceEnd → Type 0
 RunsToEnd told before after end = (form : FirstForm) × IsSource told form × (end ≡ end_of form) × Appends before after (events_of form)
@@ -49,32 +54,24 @@ RunsToEnd told before after end = (form : FirstForm) × IsSource told form × (e
 abbrev pub StopsWriting : Option (List ℕ) → Option (List Event) → Option (List Event) → Type 0
 StopsWriting told before after = (form : FirstForm) × IsSource told form × AppendsPrefix before after (events_of form)
 
+-- the run of a program without input, all of which is shared
+abbrev pub run_of : MidProgram → Limits → Setting
+run_of program limits = setting_of (everything_shared program) [] limits
+
 -- what a run of both sides gives on a source of this form: an answer of the pair's runs over the
 -- events that were written, which are all those of the source, with its end, unless one failed
 pub record RunsBoth (form : FirstForm) (before after : Option (List Event)) (write_failed : Type 0) (ran : Ran) : Type 0 where
   pub events : List Event
   pub written : Appends before after events
-  pub answer : IsAnswer (everything_shared (program_of form)) [] LIMITS no_upsets events ran
-  pub outcome : ((ran.verdict ≡ FaultVerdict) × write_failed × AppendsPrefix before after (events_of form)) ⊎ ((events ≡ events_of form) × (ran.verdict ≡ verdict_as (end_of form)))
+  pub answer : IsAnswer (run_of (program_of form) LIMITS) no_upsets events ran
+  pub outcome : ((ran.verdict ≡ FaultVerdict) × write_failed × AppendsPrefix before after (events_of form))
+      ⊎ ((events ≡ events_of form) × (ran.verdict ≡ verdict_as (end_of form)))
 
 -- the file is a source of some form, and both sides of its pair ran so
 abbrev pub RanOnSource : Option (List ℕ) → Option (List Event) → Option (List Event) → Type 0 → Ran → Type 0
 RanOnSource told before after write_failed ran = (form : FirstForm) × IsSource told form × RunsBoth form before after write_failed ran
 
--- the name is asked for, once; where memory ran out, at most once
-abbrev pub AsksFor : RunAnswer → Option (List (List ℕ)) → Option (List (List ℕ)) → List ℕ → Type 0
-AsksFor OutOfMemory before after name = AppendsPrefix before after (name ∷ [])
-AsksFor (Alone end) before after name = Appends before after (name ∷ [])
-AsksFor (RanBoth ran) before after name = Appends before after (name ∷ [])
-AsksFor WriteFault before after name = Appends before after (name ∷ [])
-AsksFor ReadFault before after name = Appends before after (name ∷ [])
-AsksFor TooLong before after name = Appends before after (name ∷ [])
-AsksFor (Refused cause) before after name = Appends before after (name ∷ [])
-AsksFor Help before after name = ⊥
-AsksFor Version before after name = ⊥
-AsksFor Usage before after name = ⊥
-
--- What an answer says of a program that is told and of this form, in this mode. Each but Alone and
+-- What an answer says of a program that is told and of this form, in a mode that runs it. Each but Alone and
 -- Ran names its cause.
 abbrev pub AnswersForm : Mode → FirstForm → Option (List Event) → Option (List Event) → Type 0 → Type 0 → RunAnswer → Type 0
 AnswersForm mode form before after read_failed write_failed (Alone end) = (mode ≡ Single) × (end ≡ end_of form) × Appends before after (events_of form)
@@ -82,8 +79,46 @@ AnswersForm mode form before after read_failed write_failed (RanBoth ran) = (mod
 AnswersForm mode form before after read_failed write_failed WriteFault = (mode ≡ Single) × write_failed × AppendsPrefix before after (events_of form)
 AnswersForm mode form before after read_failed write_failed ReadFault = read_failed × (after ≡ before)
 AnswersForm mode form before after read_failed write_failed OutOfMemory = after ≡ before
+AnswersForm mode form before after read_failed write_failed Checked = ⊥
 AnswersForm mode form before after read_failed write_failed Usage = ⊥
 AnswersForm mode form before after read_failed write_failed Help = ⊥
 AnswersForm mode form before after read_failed write_failed Version = ⊥
 AnswersForm mode form before after read_failed write_failed TooLong = ⊥
 AnswersForm mode form before after read_failed write_failed (Refused cause) = ⊥
+
+-- ---- a program that is checked
+
+-- the sources of a command, with these bytes where they are told, have a typed program
+abbrev pub HasTyping : Contents → Command → Type 0
+HasTyping contents command =
+    (main : List ℕ) × (binary : Option (List ℕ)) × AreRead contents command main binary × ((program : Program) × TypesFiles main binary program)
+
+-- the first refusal that a layer has of them
+abbrev pub HasRefusal : Contents → Command → CompileRefusal → Type 0
+HasRefusal contents command cause = (main : List ℕ) × (binary : Option (List ℕ)) × AreRead contents command main binary × RefusesFiles main binary cause
+
+-- what is answered to a program that is only checked: this, unless a file was not read or memory ran out
+abbrev pub AnswersCheck : RunAnswer → Type 0 → RunAnswer → Type 0
+AnswersCheck expected read_failed answer = (answer ≡ expected) ⊎ ((answer ≡ ReadFault) × read_failed) ⊎ (answer ≡ OutOfMemory)
+
+-- ---- in every mode
+
+-- what a refusal says of a command's files
+abbrev pub RefusedAs : Mode → Contents → Command → CompileRefusal → Type 0
+RefusedAs Check contents command cause = HasRefusal contents command cause
+RefusedAs Single contents command cause = (cause ≡ Form) × IsNoSource (contents command.program)
+RefusedAs Alternate contents command cause = (cause ≡ Form) × IsNoSource (contents command.program)
+
+-- which names are asked for, by the answer: all where the files were read, or those up to the file that is concerned
+abbrev pub AsksFor : Contents → Option (List (List ℕ)) → Option (List (List ℕ)) → List Wanted → RunAnswer → Type 0
+AsksFor contents before after files OutOfMemory = AppendsPrefix before after (names_of files)
+AsksFor contents before after files ReadFault = StopsAt contents before after files (λ file. Unit {0})
+AsksFor contents before after files TooLong = StopsAt contents before after files (PassesLimit contents)
+AsksFor contents before after files (Alone end) = ReadsAll contents before after files
+AsksFor contents before after files (RanBoth ran) = ReadsAll contents before after files
+AsksFor contents before after files Checked = ReadsAll contents before after files
+AsksFor contents before after files WriteFault = ReadsAll contents before after files
+AsksFor contents before after files (Refused cause) = ReadsAll contents before after files
+AsksFor contents before after files Help = ⊥
+AsksFor contents before after files Version = ⊥
+AsksFor contents before after files Usage = ⊥

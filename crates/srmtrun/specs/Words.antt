@@ -1,9 +1,9 @@
 -- The words of a command.
-use Rattle.std.specs.Prelude.{◌≡◌, ℕ, Bool, not, ◌&&◌, ◌⊎◌, nat_eq, List, [], ◌∷◌, map, codes, IsTrue, String, string_bytes}
-use Rattle.std.specs.List.{starts_with, ends_with}
+use Rattle.std.specs.Prelude.{◌≡◌, ℕ, Bool, not, ◌&&◌, ◌⊎◌, nat_eq, List, [], ◌∷◌, map, codes, Option, None, option_to_list, IsTrue, String, string_bytes}
+use Rattle.std.specs.List.{starts_with, ends_with, flat_map}
 use Rattle.std.specs.declared.alloc.Global.{Global}
 use Rattle.srmtrun.specs.declared.words.Mode.{Mode}
-use Rattle.srmtrun.specs.declared.words.Mode.TheVariants.{Single, Alternate}
+use Rattle.srmtrun.specs.declared.words.Mode.TheVariants.{Single, Alternate, Check}
 use Rattle.srmtrun.specs.declared.words.Question.{Question}
 use Rattle.srmtrun.specs.declared.words.Question.TheVariants.{Help, Version}
 
@@ -15,22 +15,93 @@ texts words = map string_bytes words
 abbrev pub flag_of : Mode → List ℕ
 flag_of Single = codes "--single"
 flag_of Alternate = codes "--alternate"
+flag_of Check = codes "--check"
 
--- a word names a source: it begins as no flag does, and ends as no object file does
+-- a word names a file: it begins as no flag does; the name of a source does not end as that of an object file
+abbrev pub names_file : List ℕ → Bool
+names_file word = not (starts_with nat_eq word (codes "-"))
+
 abbrev pub names_source : List ℕ → Bool
-names_source word = not (starts_with nat_eq word (codes "-")) && not (ends_with nat_eq word (codes ".srm"))
+names_source word = names_file word && not (ends_with nat_eq word (codes ".srm"))
 
--- the words are taken: the name of a source and the flag of a mode, in either order
-pub record Takes (words : List (List ℕ)) (mode : Mode) (program : List ℕ) : Type 0 where
-  pub order : (words ≡ program ∷ flag_of mode ∷ []) ⊎ (words ≡ flag_of mode ∷ program ∷ [])
-  pub source : IsTrue (names_source program)
+-- what is to be done, with the names of the main file and, where they are given, of the binary file and of the input
+pub record Command : Type 0 where
+  pub mode : Mode
+  pub program : List ℕ
+  pub binary : Option (List ℕ)
+  pub input : Option (List ℕ)
+
+-- a part of a command: the flag of a mode, the name of the main file, or an option with a name
+pub data Part : Type 0 where
+  moded : (mode : Mode) → Part
+  main_file : (name : List ℕ) → Part
+  binary_file : (name : List ℕ) → Part
+  input_file : (name : List ℕ) → Part
+
+-- the words of a part, and what its name is to be
+abbrev pub spell : Part → List (List ℕ)
+spell (moded mode) = flag_of mode ∷ []
+spell (main_file name) = name ∷ []
+spell (binary_file name) = codes "--binary" ∷ name ∷ []
+spell (input_file name) = codes "--input" ∷ name ∷ []
+
+abbrev pub IsNamed : Part → Type 0
+IsNamed (moded mode) = Unit {0}
+IsNamed (main_file name) = IsTrue (names_source name)
+IsNamed (binary_file name) = IsTrue (names_file name)
+IsNamed (input_file name) = IsTrue (names_file name)
+
+abbrev pub AreNamed : List Part → Type 0
+AreNamed [] = Unit {0}
+AreNamed (part ∷ rest) = IsNamed part × AreNamed rest
+
+-- what a part gives of each kind
+abbrev pub mode_in : Part → List Mode
+mode_in (moded mode) = mode ∷ []
+mode_in (main_file name) = []
+mode_in (binary_file name) = []
+mode_in (input_file name) = []
+
+abbrev pub program_in : Part → List (List ℕ)
+program_in (moded mode) = []
+program_in (main_file name) = name ∷ []
+program_in (binary_file name) = []
+program_in (input_file name) = []
+
+abbrev pub binary_in : Part → List (List ℕ)
+binary_in (moded mode) = []
+binary_in (main_file name) = []
+binary_in (binary_file name) = name ∷ []
+binary_in (input_file name) = []
+
+abbrev pub input_in : Part → List (List ℕ)
+input_in (moded mode) = []
+input_in (main_file name) = []
+input_in (binary_file name) = []
+input_in (input_file name) = name ∷ []
+
+-- files beside the main file are given only where a program is checked
+abbrev pub MayHaveFiles : Command → Type 0
+MayHaveFiles command = (command.mode ≡ Check) ⊎ ((command.binary ≡ None) × (command.input ≡ None))
+
+-- The words are taken as a command: they are its parts in any order, a mode and a main file once, each option at most
+-- once.
+pub record Takes (words : List (List ℕ)) (command : Command) : Type 0 where
+  pub parts : List Part
+  pub spelled : words ≡ flat_map spell parts
+  pub named : AreNamed parts
+  pub mode : flat_map mode_in parts ≡ command.mode ∷ []
+  pub program : flat_map program_in parts ≡ command.program ∷ []
+  pub binary : flat_map binary_in parts ≡ option_to_list command.binary
+  pub input : flat_map input_in parts ≡ option_to_list command.input
+  pub files : MayHaveFiles command
 
 -- the words are one question, and nothing else
 abbrev pub Asks : List (List ℕ) → Question → Type 0
 Asks words Help = words ≡ codes "--help" ∷ []
 Asks words Version = words ≡ codes "--version" ∷ []
 
--- the words are not those of a program and a mode, and no question
+-- the words are no command, and no question
 pub record IsUsage (words : List (List ℕ)) : Type 0 where
-  pub taken : (mode : Mode) (program : List ℕ) → Takes words mode program → ⊥
+  pub taken : (command : Command) → Takes words command → ⊥
   pub asked : (question : Question) → Asks words question → ⊥

@@ -1,4 +1,4 @@
-ghost use Rattle.std.specs.Prelude.{◌≡◌, ◌≢◌, ℕ, ◌+◌, ◌^◌, ◌<◌, ◌≤◌, ◌↔◌, List, [], Some, true, false, length, IfOk, IfErr, IfSome, IsErrOf, OnErr};
+ghost use Rattle.std.specs.Prelude.{◌≡◌, ◌≢◌, ℕ, ◌+◌, ◌^◌, ◌<◌, ◌≤◌, ◌↔◌, List, [], ◌∷◌, Some, true, false, length, Option, option_map, option_copied, IfOk, IfErr, IfSome, IsErrOf, OnOk, OnErr};
 ghost use Rattle.srmt_base.specs.declared.event.Event.{Event};
 ghost use Rattle.srmt_base.specs.declared.trap.SourceEnd.{SourceEnd};
 ghost use Rattle.srmt_outside.specs.Count.{Rose};
@@ -10,19 +10,25 @@ ghost use Rattle.mid_code.specs.Closed.{everything_shared};
 ghost use Rattle.mid_code.specs.Pairs.{HasSites};
 ghost use Rattle.verdicts.specs.declared.verdict.Ran.{Ran};
 ghost use Rattle.pair_core.specs.Faults.{faults_told};
+ghost use Rattle.answers.specs.declared.answer.CompileRefusal.{CompileRefusal as CompileRefusal'};
+ghost use Rattle.c_typed.specs.Statements.{Program};
+ghost use Rattle.c_front.specs.Front.{TypesFiles, RefusesFiles, IsRefusal};
 ghost use Rattle.answers.specs.Answer.{final_status, NeverRan};
 ghost use Rattle.answers.specs.Notes.{lines_of, written};
 ghost use Rattle.first_form.specs.declared.source.FirstForm.{FirstForm};
 ghost use Rattle.first_form.specs.FirstForm.{IsFirstForm};
 ghost use Rattle.first_form.specs.Lowered.{Implements};
 ghost use Rattle.srmtrun.specs.declared.words.Mode.{Mode};
-ghost use Rattle.srmtrun.specs.Answer.{answer_from, both_from, IsOfWords, write_faults_after};
-ghost use Rattle.srmtrun.specs.Still.{Names, IsNoSource, IsTooLong, RunsToEnd, RanOnSource, StopsWriting, AsksFor, AnswersForm};
-ghost use Rattle.srmtrun.specs.Parts.{Serves, StopsCompiling, StopsRun, RanBySides};
-ghost use Rattle.srmtrun.specs.Words.{texts, Takes, Asks, IsUsage};
+ghost use Rattle.srmtrun.specs.Answer.{answer_from, both_from, check_from, IsOfWords, write_faults_after};
+ghost use Rattle.srmtrun.specs.Reads.{file_named, files_named, files_of, PassesLimit, StopsAt, Reads, IsRead, IsReadIfGiven, AreRead, AreTold};
+ghost use Rattle.srmtrun.specs.Still.{Names, HasTyping, RefusedAs, AnswersCheck, RunsToEnd, RanOnSource, StopsWriting, AsksFor, AnswersForm};
+ghost use Rattle.srmtrun.specs.Parts.{Serves, Runs, StopsCompiling, StopsRun, RanBySides};
+ghost use Rattle.srmtrun.specs.Words.{texts, Command as Command', MayHaveFiles, Takes, Asks, IsUsage};
+ghost use Rattle.srmtrun.specs.Reading.{command_of};
 
-use crate::words::{Mode, Question, read_question, read_words};
+use crate::words::{Command, Mode, Question, read_command, read_question};
 use answers::{CompileRefusal, Finished, RunAnswer, finish};
+use c_front::check_files;
 use first_form::{FormRefusal, compile_first_form, pair_of};
 use mid_code::MidProgram;
 use mid_run::MidRun;
@@ -34,6 +40,9 @@ use std::alloc::{AllocError, Global};
 /// The largest source, in bytes.
 const SOURCE_LIMIT: u64 = 1_048_576;
 
+/// The largest input, in bytes.
+const INPUT_LIMIT: u64 = 16_777_216;
+
 /// The budgets of a run.
 const LIMITS: Limits = Limits {
     turns: 100_000_000,
@@ -41,7 +50,7 @@ const LIMITS: Limits = Limits {
     cells: 1_048_576,
 };
 
-/// Runs the program that the words name in one thread, or answers what they ask. It always returns.
+/// Runs or checks the program that the words name, in one thread, or answers what they ask. It always returns.
 pub fn srmtrun_still<F: Files, O: Outlet + Send, N: Sink>(
     alloc: Global,
     words: &[String],
@@ -51,42 +60,58 @@ pub fn srmtrun_still<F: Files, O: Outlet + Send, N: Sink>(
 ) -> Finished
     // A program whose file is told and is of the first form runs to its end, with all its events,
     // on one thread or by both sides in turn. Each other answer has its cause.
-    ensures told { (mode : Mode) (program bytes : List ℕ) (form : FirstForm)
-        → Takes (texts words.now) mode program
-        → F.contents files.old program ≡ Some bytes
+    ensures told { (command : Command') (bytes : List ℕ) (form : FirstForm)
+        → Takes (texts words.now) command
+        → command.mode ≢ Mode.Check
+        → F.contents files.old command.program ≡ Some bytes
         → length bytes ≤ 1048576
         → IsFirstForm bytes form
-        → AnswersForm mode form (O.events outlet.old) (O.events outlet.new)
+        → AnswersForm command.mode form (O.events outlet.old) (O.events outlet.new)
         (Rose (F.faults files.old) (F.faults files.new))
         (Rose (O.faults outlet.old) (O.faults outlet.new)) result.answer }
+
+    // A program that is only checked, whose files are told, is answered Checked where it has a typed program, and its
+    // first refusal where it has that.
+    ensures typed { (command : Command') (main : List ℕ) (binary : Option (List ℕ)) (program : Program)
+        → Takes (texts words.now) command → command.mode ≡ Mode.Check
+        → AreTold (F.contents files.old) command main binary → TypesFiles main binary program
+        → AnswersCheck RunAnswer.Checked (Rose (F.faults files.old) (F.faults files.new)) result.answer }
+    ensures untyped { (command : Command') (main : List ℕ) (binary : Option (List ℕ)) (cause : CompileRefusal')
+        → Takes (texts words.now) command → command.mode ≡ Mode.Check
+        → AreTold (F.contents files.old) command main binary → RefusesFiles main binary cause
+        → AnswersCheck (RunAnswer.Refused cause) (Rose (F.faults files.old) (F.faults files.new)) result.answer }
 
     // When each answer comes.
     ensures usage { (result.answer ≡ RunAnswer.Usage) ↔ IsUsage (texts words.now) }
     ensures help { (result.answer ≡ RunAnswer.Help) ↔ Asks (texts words.now) Question.Help }
     ensures version { (result.answer ≡ RunAnswer.Version) ↔ Asks (texts words.now) Question.Version }
     ensures alone { (end : SourceEnd) → result.answer ≡ RunAnswer.Alone end
-        → Names (texts words.now) (λ mode program. (mode ≡ Mode.Single)
-        × RunsToEnd (F.contents files.old program)
+        → Names (texts words.now) (λ command. (command.mode ≡ Mode.Single)
+        × RunsToEnd (F.contents files.old command.program)
         (O.events outlet.old) (O.events outlet.new) end) }
     ensures ran { (ran : Ran) → result.answer ≡ RunAnswer.Ran ran
-        → Names (texts words.now) (λ mode program. (mode ≡ Mode.Alternate)
-        × RanOnSource (F.contents files.old program)
+        → Names (texts words.now) (λ command. (command.mode ≡ Mode.Alternate)
+        × RanOnSource (F.contents files.old command.program)
         (O.events outlet.old) (O.events outlet.new)
         (Rose (O.faults outlet.old) (O.faults outlet.new)) ran) }
+    ensures checked { result.answer ≡ RunAnswer.Checked → Names (texts words.now)
+        (λ command. (command.mode ≡ Mode.Check) × HasTyping (F.contents files.old) command) }
+    ensures refused { (cause : CompileRefusal') → result.answer ≡ RunAnswer.Refused cause → Names (texts words.now)
+        (λ command. RefusedAs command.mode (F.contents files.old) command cause) }
     ensures write_fault { result.answer ≡ RunAnswer.WriteFault → Names (texts words.now)
-        (λ mode program. (mode ≡ Mode.Single) × StopsWriting (F.contents files.old program)
+        (λ command. (command.mode ≡ Mode.Single) × StopsWriting (F.contents files.old command.program)
         (O.events outlet.old) (O.events outlet.new)) }
     ensures read_failed { result.answer ≡ RunAnswer.ReadFault
         → Rose (F.faults files.old) (F.faults files.new) }
     ensures too_long { result.answer ≡ RunAnswer.TooLong → Names (texts words.now)
-        (λ mode program. IsTooLong (F.contents files.old program)) }
-    ensures form { result.answer ≡ RunAnswer.Refused CompileRefusal.Form → Names (texts words.now)
-        (λ mode program. IsNoSource (F.contents files.old program)) }
+        (λ command. StopsAt (F.contents files.old) (F.asked files.old) (F.asked files.new)
+        (files_of command) (PassesLimit (F.contents files.old))) }
     ensures no_event { NeverRan result.answer → O.events outlet.new ≡ O.events outlet.old }
 
     // What it asks of the files, and what it leaves.
     ensures asks { (IsOfWords result.answer → ⊥) → Names (texts words.now)
-        (λ mode. AsksFor result.answer (F.asked files.old) (F.asked files.new)) }
+        (λ command. AsksFor (F.contents files.old) (F.asked files.old) (F.asked files.new)
+        (files_of command) result.answer) }
     ensures asks_nothing { IsOfWords result.answer → F.asked files.new ≡ F.asked files.old }
     ensures contents { F.contents files.new ≡ F.contents files.old }
     ensures read_faults { F.faults files.old ≤ F.faults files.new }
@@ -122,11 +147,11 @@ fn answer<F: Files, O: Outlet>(
     ensures unread { IsOfWords result → F.asked files.new ≡ F.asked files.old }
     ensures unwritten { IsOfWords result → O.events outlet.new ≡ O.events outlet.old }
     ensures serves { (IsOfWords result → ⊥) → Names (texts words.now)
-        (λ mode program. Serves mode (F.contents files.old program)
+        (λ command. Serves command (F.contents files.old)
         (O.events outlet.old) (O.events outlet.new)
         (Rose (F.faults files.old) (F.faults files.new))
         (Rose (O.faults outlet.old) (O.faults outlet.new)) result
-        × AsksFor result (F.asked files.old) (F.asked files.new) program) }
+        × AsksFor (F.contents files.old) (F.asked files.old) (F.asked files.new) (files_of command) result) }
     ensures contents { F.contents files.new ≡ F.contents files.old }
     ensures read_faults { F.faults files.old ≤ F.faults files.new }
     ensures write_faults { O.faults outlet.new ≡ write_faults_after result (O.faults outlet.old) }
@@ -136,38 +161,98 @@ fn answer<F: Files, O: Outlet>(
         Some(Question::Version) => return RunAnswer::Version,
         None => {}
     }
-    match read_words(words) {
-        Some((mode, program)) => serve(alloc, mode, program, files, outlet),
+    match read_command(words) {
+        Some(command) => serve(alloc, command, files, outlet),
         None => RunAnswer::Usage,
     }
 }
 
-/// The answer of a run of a program in this mode.
+/// The answer to a command.
 fn serve<F: Files, O: Outlet>(
     alloc: Global,
-    mode: Mode,
-    program: &str,
+    command: Command<'_>,
     files: &mut F,
     outlet: &mut O,
 ) -> RunAnswer
-    ensures serves { Serves mode (F.contents files.old program.now)
+    requires { MayHaveFiles (command_of command) }
+    ensures serves { Serves (command_of command.entry) (F.contents files.old)
         (O.events outlet.old) (O.events outlet.new)
         (Rose (F.faults files.old) (F.faults files.new))
         (Rose (O.faults outlet.old) (O.faults outlet.new)) result }
-    ensures asks { AsksFor result (F.asked files.old) (F.asked files.new) program.now }
+    ensures asks { AsksFor (F.contents files.old) (F.asked files.old) (F.asked files.new)
+        (files_of (command_of command.entry)) result }
     ensures contents { F.contents files.new ≡ F.contents files.old }
     ensures read_faults { F.faults files.old ≤ F.faults files.new }
     ensures write_faults { O.faults outlet.new ≡ write_faults_after result (O.faults outlet.old) }
 {
-    match mode {
-        Mode::Single => match single(alloc, program, files, outlet) {
-            Ok(end) => RunAnswer::Alone(end),
-            Err(answer) => answer,
-        },
-        Mode::Alternate => match both(alloc, program, files, outlet) {
-            Ok(ran) => RunAnswer::Ran(ran),
-            Err(answer) => answer,
-        },
+    match command.mode {
+        Mode::Single => serve_single(alloc, command.program, files, outlet),
+        Mode::Alternate => serve_both(alloc, command.program, files, outlet),
+        Mode::Check => serve_check(alloc, command, files),
+    }
+}
+
+/// The answer to a source that runs on one thread.
+fn serve_single<F: Files, O: Outlet>(
+    alloc: Global,
+    name: &str,
+    files: &mut F,
+    outlet: &mut O,
+) -> RunAnswer
+    ensures serves { Runs Mode.Single name.now (F.contents files.old)
+        (O.events outlet.old) (O.events outlet.new)
+        (Rose (F.faults files.old) (F.faults files.new))
+        (Rose (O.faults outlet.old) (O.faults outlet.new)) result }
+    ensures asks { AsksFor (F.contents files.old) (F.asked files.old) (F.asked files.new)
+        (file_named 1048576 name.now ∷ []) result }
+    ensures contents { F.contents files.new ≡ F.contents files.old }
+    ensures read_faults { F.faults files.old ≤ F.faults files.new }
+    ensures write_faults { O.faults outlet.new ≡ write_faults_after result (O.faults outlet.old) }
+{
+    match single(alloc, name, files, outlet) {
+        Ok(end) => RunAnswer::Alone(end),
+        Err(answer) => answer,
+    }
+}
+
+/// The answer to a source that runs on both sides in turn.
+fn serve_both<F: Files, O: Outlet>(
+    alloc: Global,
+    name: &str,
+    files: &mut F,
+    outlet: &mut O,
+) -> RunAnswer
+    ensures serves { Runs Mode.Alternate name.now (F.contents files.old)
+        (O.events outlet.old) (O.events outlet.new)
+        (Rose (F.faults files.old) (F.faults files.new))
+        (Rose (O.faults outlet.old) (O.faults outlet.new)) result }
+    ensures asks { AsksFor (F.contents files.old) (F.asked files.old) (F.asked files.new)
+        (file_named 1048576 name.now ∷ []) result }
+    ensures contents { F.contents files.new ≡ F.contents files.old }
+    ensures read_faults { F.faults files.old ≤ F.faults files.new }
+    ensures write_faults { O.faults outlet.new ≡ write_faults_after result (O.faults outlet.old) }
+{
+    match both(alloc, name, files, outlet) {
+        Ok(ran) => RunAnswer::Ran(ran),
+        Err(answer) => answer,
+    }
+}
+
+/// The answer to a program that is checked.
+fn serve_check<F: Files>(alloc: Global, command: Command<'_>, files: &mut F) -> RunAnswer
+    requires { command.mode ≡ Mode.Check }
+    ensures serves { (events : Option (List Event)) (before after : ℕ)
+        → Serves (command_of command.entry) (F.contents files.old) events events
+        (Rose (F.faults files.old) (F.faults files.new)) (Rose before after) result }
+    ensures asks { AsksFor (F.contents files.old) (F.asked files.old) (F.asked files.new)
+        (files_of (command_of command.entry)) result }
+    ensures contents { F.contents files.new ≡ F.contents files.old }
+    ensures read_faults { F.faults files.old ≤ F.faults files.new }
+    ensures write_faults { (faults : ℕ) → write_faults_after result faults ≡ faults }
+{
+    match checked(alloc, command, files) {
+        Ok(()) => RunAnswer::Checked,
+        Err(answer) => answer,
     }
 }
 
@@ -178,16 +263,17 @@ fn single<F: Files, O: Outlet>(
     files: &mut F,
     outlet: &mut O,
 ) -> Result<SourceEnd, RunAnswer>
-    ensures serves { Serves Mode.Single (F.contents files.old name.now)
+    ensures serves { Runs Mode.Single name.now (F.contents files.old)
         (O.events outlet.old) (O.events outlet.new)
         (Rose (F.faults files.old) (F.faults files.new))
         (Rose (O.faults outlet.old) (O.faults outlet.new)) (answer_from result) }
-    ensures asks { AsksFor (answer_from result) (F.asked files.old) (F.asked files.new) name.now }
+    ensures asks { AsksFor (F.contents files.old) (F.asked files.old) (F.asked files.new)
+        (file_named 1048576 name.now ∷ []) (answer_from result) }
     ensures contents { F.contents files.new ≡ F.contents files.old }
     ensures read_faults { F.faults files.old ≤ F.faults files.new }
     ensures write_faults { O.faults outlet.new ≡ write_faults_after (answer_from result) (O.faults outlet.old) }
 {
-    let source = load(alloc, name, files)?;
+    let source = load(alloc, name, SOURCE_LIMIT, files)?;
     let program = compile(alloc, &source)?;
     run(alloc, &program, outlet)
 }
@@ -199,36 +285,148 @@ fn both<F: Files, O: Outlet>(
     files: &mut F,
     outlet: &mut O,
 ) -> Result<Ran, RunAnswer>
-    ensures serves { Serves Mode.Alternate (F.contents files.old name.now)
+    ensures serves { Runs Mode.Alternate name.now (F.contents files.old)
         (O.events outlet.old) (O.events outlet.new)
         (Rose (F.faults files.old) (F.faults files.new))
         (Rose (O.faults outlet.old) (O.faults outlet.new)) (both_from result) }
-    ensures asks { AsksFor (both_from result) (F.asked files.old) (F.asked files.new) name.now }
+    ensures asks { AsksFor (F.contents files.old) (F.asked files.old) (F.asked files.new)
+        (file_named 1048576 name.now ∷ []) (both_from result) }
     ensures contents { F.contents files.new ≡ F.contents files.old }
     ensures read_faults { F.faults files.old ≤ F.faults files.new }
     ensures write_faults { O.faults outlet.new ≡ write_faults_after (both_from result) (O.faults outlet.old) }
 {
-    let source = load(alloc, name, files)?;
+    let source = load(alloc, name, SOURCE_LIMIT, files)?;
     let program = compile(alloc, &source)?;
     Ok(run_sides(alloc, program, outlet)?)
 }
 
-/// The bytes of a source.
-fn load<F: Files>(alloc: Global, name: &str, files: &mut F) -> Result<Vec<u8>, FileFault>
+/// Checks a program, or gives the answer that stopped it. Its input is read and not looked at.
+fn checked<F: Files>(alloc: Global, command: Command<'_>, files: &mut F) -> Result<(), RunAnswer>
+    requires { command.mode ≡ Mode.Check }
+    ensures serves { (events : Option (List Event)) (before after : ℕ)
+        → Serves (command_of command.entry) (F.contents files.old) events events
+        (Rose (F.faults files.old) (F.faults files.new)) (Rose before after) (check_from result) }
+    ensures asks { AsksFor (F.contents files.old) (F.asked files.old) (F.asked files.new)
+        (files_of (command_of command.entry)) (check_from result) }
+    ensures contents { F.contents files.new ≡ F.contents files.old }
+    ensures read_faults { F.faults files.old ≤ F.faults files.new }
+    ensures write_faults { (faults : ℕ) → write_faults_after (check_from result) faults ≡ faults }
+{
+    let (main, binary) = load_sources(alloc, command, files)?;
+    check_read(alloc, &main, &binary)
+}
+
+/// Whether the bytes that were read are a program, or the answer that tells why not.
+fn check_read(alloc: Global, main: &[u8], binary: &Option<Vec<u8>>) -> Result<(), RunAnswer>
+    requires main { length main.now ≤ 1048576 }
+    requires binary { IfSome (option_map (λ bytes. bytes.items) binary.now) (λ src. length src ≤ 1048576) }
+    ensures ok { OnOk result ((program : Program) × TypesFiles main.now (option_map (λ bytes. bytes.items) binary.now) program) }
+    ensures err { IfErr result (IsRefusal (RefusesFiles main.now (option_map (λ bytes. bytes.items) binary.now))) }
+{
+    match binary {
+        Some(binary) => check_sources(alloc, main, Some(binary.as_slice())),
+        None => check_sources(alloc, main, None),
+    }
+}
+
+/// Whether the bytes of sources are a program, or the answer that tells why not.
+fn check_sources(alloc: Global, main: &[u8], binary: Option<&[u8]>) -> Result<(), RunAnswer>
+    requires main { length main.now ≤ 1048576 }
+    requires binary { IfSome (option_copied binary) (λ src. length src ≤ 1048576) }
+    ensures ok { OnOk result ((program : Program) × TypesFiles main.now (option_copied binary.entry) program) }
+    ensures err { IfErr result (IsRefusal (RefusesFiles main.now (option_copied binary.entry))) }
+{
+    match check_files(alloc, main, binary) {
+        Ok(_program) => Ok(()),
+        Err(answer) => Err(answer),
+    }
+}
+
+/// The bytes of the sources of a command. Its input is read behind them.
+fn load_sources<F: Files>(
+    alloc: Global,
+    command: Command<'_>,
+    files: &mut F,
+) -> Result<(Vec<u8>, Option<Vec<u8>>), FileFault>
+    ensures ok { IfOk result (λ sources. AreRead (F.contents files.old) (command_of command.entry)
+        sources.0.items (option_map (λ bytes. bytes.items) sources.1)) }
+    ensures asks { Reads (F.contents files.old) (F.asked files.old) (F.asked files.new)
+        (files_of (command_of command.entry)) result }
+    ensures failed { IsErrOf result FileFault.Failed
+        → Rose (F.faults files.old) (F.faults files.new) }
+    ensures never_falls { F.faults files.old ≤ F.faults files.new }
+    ensures contents { F.contents files.new ≡ F.contents files.old }
+{
+    let main = load(alloc, command.program, SOURCE_LIMIT, files)?;
+    let binary = load_if_given(alloc, command.binary, SOURCE_LIMIT, files)?;
+    let _input = load_if_given(alloc, command.input, INPUT_LIMIT, files)?;
+    Ok((main, binary))
+}
+
+/// The bytes of a file whose name is given.
+fn load_if_given<F: Files>(
+    alloc: Global,
+    name: Option<&str>,
+    limit: u64,
+    files: &mut F,
+) -> Result<Option<Vec<u8>>, FileFault>
+    ensures ok { IfOk result (λ found. IsReadIfGiven (F.contents files.old) limit
+        (option_copied name.entry) (option_map (λ bytes. bytes.items) found)) }
+    ensures asks { Reads (F.contents files.old) (F.asked files.old) (F.asked files.new)
+        (files_named limit (option_copied name.entry)) result }
+    ensures failed { IsErrOf result FileFault.Failed
+        → Rose (F.faults files.old) (F.faults files.new) }
+    ensures never_falls { F.faults files.old ≤ F.faults files.new }
+    ensures contents { F.contents files.new ≡ F.contents files.old }
+{
+    match name {
+        Some(name) => match load(alloc, name, limit, files) {
+            Ok(bytes) => Ok(Some(bytes)),
+            Err(fault) => Err(fault),
+        },
+        None => Ok(None),
+    }
+}
+
+/// The bytes of a file.
+fn load<F: Files>(
+    alloc: Global,
+    name: &str,
+    limit: u64,
+    files: &mut F,
+) -> Result<Vec<u8>, FileFault>
+    ensures ok { IfOk result (λ found. IsRead (F.contents files.old) (file_named limit name.now) found.items) }
+    ensures asks { Reads (F.contents files.old) (F.asked files.old) (F.asked files.new)
+        (file_named limit name.now ∷ []) result }
+    ensures failed { IsErrOf result FileFault.Failed
+        → Rose (F.faults files.old) (F.faults files.new) }
+    ensures never_falls { F.faults files.old ≤ F.faults files.new }
+    ensures contents { F.contents files.new ≡ F.contents files.old }
+{
+    read(alloc, name, limit, files)
+}
+
+/// The same, fact by fact.
+fn read<F: Files>(
+    alloc: Global,
+    name: &str,
+    limit: u64,
+    files: &mut F,
+) -> Result<Vec<u8>, FileFault>
     ensures told { IfOk result
-        (λ source. IfSome (F.contents files.old name.now) (λ told. told ≡ source.items)) }
-    ensures within { IfOk result (λ source. length source.items ≤ 1048576) }
+        (λ found. IfSome (F.contents files.old name.now) (λ told. told ≡ found.items)) }
+    ensures within { IfOk result (λ found. length found.items ≤ limit) }
     ensures too_long { IsErrOf result FileFault.TooLong
-        → IsTooLong (F.contents files.old name.now) }
+        → IfSome (F.contents files.old name.now) (λ told. limit < length told) }
     ensures failed { IsErrOf result FileFault.Failed
         → Rose (F.faults files.old) (F.faults files.new) }
     ensures never_falls { F.faults files.old ≤ F.faults files.new }
     ensures contents { F.contents files.new ≡ F.contents files.old }
     ensures asks { AsksFile result (F.asked files.old) (F.asked files.new) name.now }
 {
-    let mut source = Vec::new(alloc);
-    files.read(alloc, name, &mut source, SOURCE_LIMIT)?;
-    Ok(source)
+    let mut found = Vec::new(alloc);
+    files.read(alloc, name, &mut found, limit)?;
+    Ok(found)
 }
 
 /// The middle code of a source, or the answer that stopped it.

@@ -11,18 +11,18 @@ pub returns-in_err-program-clause-serves : goal.returns-in_err-program-clause-se
 returns-in_err-program-clause-serves g c =
     let p = err_from_is_err_and c.from_residual-in_err-program.result c.from_residual-in_err-program.ensures.1 in
     let stops = subst (λ (b : List ℕ). StopsCompiling b c.in_err-program.field-0.0) c.deref.ensures.value c.in_err-program.ensures.err in
-    rw (p.1, p.2) (compile_serves (g.F.Files.contents c.args.files.now c.args.name.now) (g.O.Outlet.events c.args.outlet.now) (g.O.Outlet.events c.args.outlet.now) _ _ Single c.in_ok-source.source.items c.in_ok-source.ensures.told c.in_ok-source.ensures.within c.in_err-program.field-0.0 stops)
+    rw (p.1, p.2) (compile_serves (g.F.Files.contents c.args.files.now) c.args.name.now (g.O.Outlet.events c.args.outlet.now) (g.O.Outlet.events c.args.outlet.now) _ _ Single c.in_ok-source.source.items c.in_ok-source.ensures.ok.told c.in_ok-source.ensures.ok.within (λ e. absurd cc) c.in_err-program.field-0.0 stops)
 
 pub returns-in_err-program-clause-asks : goal.returns-in_err-program-clause-asks
 returns-in_err-program-clause-asks g c =
     let p = err_from_is_err_and c.from_residual-in_err-program.result c.from_residual-in_err-program.ensures.1 in
     let stops = subst (λ (b : List ℕ). StopsCompiling b c.in_err-program.field-0.0) c.deref.ensures.value c.in_err-program.ensures.err in
-    rw (p.1, p.2) (compile_asks c.in_ok-source.source.items _ _ _ _ stops c.in_ok-source.ensures.asks)
+    rw (p.1, p.2) (compile_asks _ _ _ _ c.in_ok-source.ensures.asks c.in_ok-source.source.items _ stops)
 
 pub returns-clause-serves : goal.returns-clause-serves
 returns-clause-serves g c =
     let form = c.in_ok-program.ensures.ok in
-    run_serves _ _ _ _ _ Single c.in_ok-source.source.items c.in_ok-source.ensures.told c.in_ok-source.ensures.within refl LIMITS c.in_ok-program.program form.0 (subst (λ (b : List ℕ). IsFirstForm b form.0) c.deref.ensures.value form.1) form.2 c.run.result c.run.ensures.ok c.run.ensures.err
+    run_serves (g.F.Files.contents c.args.files.now) c.args.name.now (g.O.Outlet.events c.args.outlet.now) (g.O.Outlet.events c.run.new.outlet) _ _ Single c.in_ok-source.source.items c.in_ok-source.ensures.ok.told c.in_ok-source.ensures.ok.within refl LIMITS c.in_ok-program.program form.0 (subst (λ (b : List ℕ). IsFirstForm b form.0) c.deref.ensures.value form.1) form.2 c.run.result c.run.ensures.ok c.run.ensures.err
 
 pub returns-clause-asks : goal.returns-clause-asks
-returns-clause-asks g c = run_asks c.in_ok-program.program LIMITS (g.O.Outlet.events c.args.outlet.now) (g.O.Outlet.events c.run.new.outlet) _ _ _ _ c.in_ok-source.ensures.asks c.run.result c.run.ensures.err
+returns-clause-asks g c = run_asks _ _ _ _ c.in_ok-source.ensures.asks c.in_ok-program.program LIMITS (g.O.Outlet.events c.args.outlet.now) (g.O.Outlet.events c.run.new.outlet) _ c.run.result c.run.ensures.err
