@@ -1,7 +1,7 @@
 use self::calls::{CALLS, FORM, TOO_LONG, Want};
 use crate::still::srmtrun_still;
 use answers::{CompileRefusal, RunAnswer};
-use first_form::{Constant, read_first_form};
+use first_form::{Constant, FirstForm, read_first_form};
 use pair_core::{Ran, Verdict};
 use srmt_base::{Event, SourceEnd};
 use srmt_outside::{MemFiles, MemOutlet, MemSink};
@@ -83,27 +83,59 @@ fn exits(want: Want) -> usize {
     }
 }
 
-// Whether the call comes to what it is to come to. All lines are noted where no call of the notes is
-// to fail.
-fn holds(alloc: Global, case: &Case<'_>) -> Result<bool, AllocError> {
-    let [read, write, note] = case.fails;
+// The files of a case.
+fn files_of(alloc: Global, case: &Case<'_>) -> Result<MemFiles, AllocError> {
     let mut files = MemFiles::new(alloc);
     files.give(alloc, "a.c", case.source)?;
-    files.fails.push(read)?;
+    files.fails.push(case.fails[0])?;
+    Ok(files)
+}
+
+// An outlet whose call of this number fails.
+fn outlet_of(alloc: Global, fails: u64) -> Result<MemOutlet, AllocError> {
     let mut outlet = MemOutlet::with_room(alloc, 30_000)?;
-    outlet.fails.push(write)?;
+    outlet.fails.push(fails)?;
+    Ok(outlet)
+}
+
+// Notes whose call of this number fails.
+fn notes_of(alloc: Global, fails: u64) -> Result<MemSink, AllocError> {
     let mut notes = MemSink::with_room(alloc, 100)?;
-    notes.fails.push(note)?;
-    let words = owned(alloc, case.words)?;
-    let finished = srmtrun_still(alloc, &words, &mut files, &mut outlet, &mut notes);
-    let bytes = bytes_of(alloc, outlet.events())?;
+    notes.fails.push(fails)?;
+    Ok(notes)
+}
+
+// Whether the events are the bytes of a case, and one more where its program exits.
+fn written(alloc: Global, case: &Case<'_>, events: &[Event]) -> Result<bool, AllocError> {
+    let bytes = bytes_of(alloc, events)?;
+    let count = events.len().checked_sub(exits(case.want));
+    Ok(bytes.as_slice() == case.bytes && count == Some(bytes.len()))
+}
+
+// Whether the call over these comes to what it is to come to. All lines are noted where no call of the
+// notes is to fail.
+fn comes_to(
+    alloc: Global,
+    case: &Case<'_>,
+    words: &[String],
+    files: &mut MemFiles,
+    outlet: &mut MemOutlet,
+    notes: &mut MemSink,
+) -> Result<bool, AllocError> {
+    let finished = srmtrun_still(alloc, words, files, outlet, notes);
     let ended = finished.answer == answer_of(case.want, case.status)
         && finished.status == case.status;
-    let others = exits(case.want);
-    let events = outlet.events().len();
-    let written = bytes.as_slice() == case.bytes && events.checked_sub(others) == Some(bytes.len());
-    let noted = finished.noted == (note == 0) && notes.bytes() == case.notes.as_bytes();
-    Ok(ended && written && noted)
+    let noted = finished.noted == (case.fails[2] == 0) && notes.bytes() == case.notes.as_bytes();
+    Ok(ended && noted && written(alloc, case, outlet.events())?)
+}
+
+// Whether the call comes to what it is to come to.
+fn holds(alloc: Global, case: &Case<'_>) -> Result<bool, AllocError> {
+    let words = owned(alloc, case.words)?;
+    let mut files = files_of(alloc, case)?;
+    let mut outlet = outlet_of(alloc, case.fails[1])?;
+    let mut notes = notes_of(alloc, case.fails[2])?;
+    comes_to(alloc, case, &words, &mut files, &mut outlet, &mut notes)
 }
 
 #[test]
@@ -167,35 +199,63 @@ fn stops(
     holds(alloc, &case)
 }
 
+// The longest source that is read.
+fn longest(alloc: Global) -> Result<Vec<u8>, AllocError> {
+    let mut source = Vec::from_slice(alloc, b"int main(void){return 0;}")?;
+    source.resize(1_048_576, b'\n')?;
+    Ok(source)
+}
+
+fn most_run(alloc: Global) -> Result<bool, AllocError> {
+    let most = sevens(alloc, 20_000)?;
+    runs(alloc, &most, &[7; 20_000])
+}
+
+fn more_are_refused(alloc: Global) -> Result<bool, AllocError> {
+    let more = sevens(alloc, 20_001)?;
+    stops(alloc, &more, Want::Form, 127, FORM)
+}
+
+fn longest_runs(alloc: Global) -> Result<bool, AllocError> {
+    let source = longest(alloc)?;
+    runs(alloc, &source, b"")
+}
+
+fn longer_is_too_long(alloc: Global) -> Result<bool, AllocError> {
+    let mut source = longest(alloc)?;
+    source.push(b'\n')?;
+    stops(alloc, &source, Want::TooLong, 124, TOO_LONG)
+}
+
 #[test]
 fn limits_are_exact(rt: HostRuntime) -> Result<(), Fail> {
-    let alloc = rt.alloc();
-    let bytes = [7; 20_000];
-    let most = sevens(alloc, 20_000)?;
-    assert!(rt; runs(alloc, &most, &bytes)?);
-    let more = sevens(alloc, 20_001)?;
-    assert!(rt; stops(alloc, &more, Want::Form, 127, FORM)?);
-    let mut longest = Vec::from_slice(alloc, b"int main(void){return 0;}")?;
-    longest.resize(1_048_576, b'\n')?;
-    assert!(rt; runs(alloc, &longest, b"")?);
-    longest.push(b'\n')?;
-    assert!(rt; stops(alloc, &longest, Want::TooLong, 124, TOO_LONG)?);
+    assert!(rt; most_run(rt.alloc())?);
+    assert!(rt; more_are_refused(rt.alloc())?);
+    assert!(rt; longest_runs(rt.alloc())?);
+    assert!(rt; longer_is_too_long(rt.alloc())?);
     Ok(())
+}
+
+// Whether each part of the form of the source below has the line on which it stands.
+fn has_lines(form: &FirstForm) -> bool {
+    let lines = (form.main_line, form.return_line, form.end_line);
+    let status = Constant { value: 7, line: 9 };
+    let byte = Constant { value: 65, line: 7 };
+    match form.puts.as_slice() {
+        [put] => {
+            lines == (3, 8, 11)
+                && form.status == status
+                && (put.name_line, put.paren_line) == (5, 6)
+                && put.constant == byte
+        }
+        _ => false,
+    }
 }
 
 #[test]
 fn lines_are_kept(rt: HostRuntime) -> Result<(), Fail> {
     let source = b"\nint\nmain\n(void) {\nputchar\n(\n65\n); return\n7\n;\n}\n";
     let form = read_first_form(rt.alloc(), source).map_err(|_| "no first form")?;
-    assert_eq!(rt;
-        (form.main_line, form.return_line, form.end_line),
-        (3, 8, 11)
-    );
-    assert_eq!(rt; form.status, Constant { value: 7, line: 9 });
-    for put in form.puts.as_slice() {
-        assert_eq!(rt; (put.name_line, put.paren_line), (5, 6));
-        assert_eq!(rt; put.constant, Constant { value: 65, line: 7 });
-    }
-    assert_eq!(rt; form.puts.len(), 1);
+    assert!(rt; has_lines(&form));
     Ok(())
 }

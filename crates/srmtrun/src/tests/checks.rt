@@ -58,6 +58,16 @@ fn answers(alloc: Global, row: &Row) -> Result<bool, AllocError> {
     Ok(silent && finished.answer == *answer && notes.bytes() == text.as_bytes())
 }
 
+// Whether each call has.
+fn all_answer(alloc: Global, rows: &[Row]) -> Result<bool, AllocError> {
+    for row in rows {
+        if !answers(alloc, row)? {
+            return Ok(false);
+        }
+    }
+    Ok(true)
+}
+
 // A layer goes over the main file and then over the binary file before the next one begins.
 #[test]
 fn tokens_and_syntax_are_checked(rt: HostRuntime) -> Result<(), Fail> {
@@ -129,9 +139,7 @@ fn tokens_and_syntax_are_checked(rt: HostRuntime) -> Result<(), Fail> {
             READING,
         ),
     ];
-    for row in rows {
-        assert!(rt; answers(rt.alloc(), &row)?, "{row:?}");
-    }
+    assert!(rt; all_answer(rt.alloc(), &rows)?);
     Ok(())
 }
 
@@ -196,9 +204,7 @@ fn types_are_checked(rt: HostRuntime) -> Result<(), Fail> {
             "",
         ),
     ];
-    for row in rows {
-        assert!(rt; answers(rt.alloc(), &row)?, "{row:?}");
-    }
+    assert!(rt; all_answer(rt.alloc(), &rows)?);
     Ok(())
 }
 

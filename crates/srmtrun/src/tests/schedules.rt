@@ -120,6 +120,42 @@ fn gives_the_same(
     Ok(numbers == Some(expected) && outlet.events() == events)
 }
 
+// Whether every order gives the answer and the events that turns of one side after the other give.
+fn all_give_the_same(
+    alloc: Global,
+    pair: &Pair,
+    ran: [u64; 5],
+    events: &[Event],
+) -> Result<bool, AllocError>
+    requires { FitLimits pair.now.program LIMITS }
+{
+    for order in ORDERS {
+        if !gives_the_same(alloc, pair, order, ran, events)? {
+            return Ok(false);
+        }
+    }
+    Ok(true)
+}
+
+// What both sides give by turns of one after the other.
+fn in_turn(alloc: Global, pair: &Pair, outlet: &mut MemOutlet) -> Result<[u64; 5], AllocError>
+    requires { FitLimits pair.now.program LIMITS }
+{
+    let mut duo = Duo::start(alloc, pair, Vec::new(alloc), LIMITS)?;
+    let ran = alternate(&mut duo, pair, outlet);
+    Ok(told(&ran))
+}
+
+// Whether every order of the sides of a source gives the same.
+fn same_in_every_order(alloc: Global, source: &[u8]) -> Result<bool, Fail>
+    requires { length source.now < 1000 }
+{
+    let pair = pair_from(alloc, source)?;
+    let mut outlet = MemOutlet::with_room(alloc, 3)?;
+    let ran = in_turn(alloc, &pair, &mut outlet)?;
+    Ok(all_give_the_same(alloc, &pair, ran, outlet.events())?)
+}
+
 #[test]
 fn every_order_gives_the_same(rt: HostRuntime) -> Result<(), Fail> {
     let sources: [&[u8]; 3] = [
@@ -129,14 +165,7 @@ fn every_order_gives_the_same(rt: HostRuntime) -> Result<(), Fail> {
     ];
     for source in sources {
         assert!(rt; source.len() < 1000);
-        let pair = pair_from(rt.alloc(), source)?;
-        let mut outlet = MemOutlet::with_room(rt.alloc(), 3)?;
-        let mut duo = Duo::start(rt.alloc(), &pair, Vec::new(rt.alloc()), LIMITS)?;
-        let ran = alternate(&mut duo, &pair, &mut outlet);
-        for order in ORDERS {
-            let same = gives_the_same(rt.alloc(), &pair, order, told(&ran), outlet.events())?;
-            assert!(rt; same, "{order:?}");
-        }
+        assert!(rt; same_in_every_order(rt.alloc(), source)?);
     }
     Ok(())
 }
