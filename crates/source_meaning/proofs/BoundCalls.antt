@@ -28,7 +28,7 @@ module _ (s : Setting) (other : (line number : ℕ) (arguments : List ℕ) → D
       then_agree b b b _ _ _ _ (either_agree b b (row_of s n).is_placed _ _ _ _ (object_takes_keeps s n v b) (λ w low. (refl, low)))
       (λ done. parameters_agree b (suc n) rest)
 
-  body_agrees : (b i j : ℕ) → b ≤ i → b ≤ j →
+  pub body_agrees : (b i j : ℕ) → b ≤ i → b ≤ j →
       ((d : ℕ) → d ≤ b → (line number : ℕ) (arguments : List ℕ) → Agree d d (s.call line number arguments) (other line number arguments)) →
       (f : Function) (arguments : List ℕ) → Agree b b (body_of s i f arguments) (body_of after j f arguments)
   body_agrees b i j h k calls f arguments w low =
@@ -38,12 +38,12 @@ module _ (s : Setting) (other : (line number : ℕ) (arguments : List ℕ) → D
       (λ c. then_agree b b b _ _ _ _ (all_end_agree s other b (numbers_below f.parameters)) (λ ended u z. (refl, z))))
       (record w { locals = replicate (length f.locals) 0 }) low
 
-none_entered : (line c : ℕ) (part : Part) (function : Option Function) (m n : Function → Doing ℕ)
+pub none_entered : (line c : ℕ) (part : Part) (function : Option Function) (m n : Function → Doing ℕ)
     → Agree 0 c (entered line part function m) (entered line part function n)
 none_entered line c part None m n = λ w low. (refl, tt)
 none_entered line c part (Some f) m n = no_entry f.line c part _ _
 
-one_entered : (line b : ℕ) (part : Part) (function : Option Function) (m n : Function → Doing ℕ) → ((f : Function) → Agree b b (m f) (n f))
+pub one_entered : (line b : ℕ) (part : Part) (function : Option Function) (m n : Function → Doing ℕ) → ((f : Function) → Agree b b (m f) (n f))
     → Agree (suc b) (suc b) (entered line part function m) (entered line part function n)
 one_entered line b part None m n h = λ w low. (refl, tt)
 one_entered line b part (Some f) m n h =
@@ -60,7 +60,7 @@ unfolding calls
 bodies program most number arguments f = body_of (setting_of program number f (calls program most)) most f arguments
 
 module _ (program : Program) where
-  calls_agree : (n m b : ℕ) → b ≤ n → b ≤ m → (line number : ℕ) (arguments : List ℕ)
+  pub calls_agree : (n m b : ℕ) → b ≤ n → b ≤ m → (line number : ℕ) (arguments : List ℕ)
       → Agree b b (calls program n line number arguments) (calls program m line number arguments)
   unfolding calls none bodies
   calls_agree zero zero zero h k line number arguments = none_entered line 0 (part_of_function program number) (function_at program number) none none

@@ -32,13 +32,27 @@ continued_agrees b continues m n h = h
 continued_agrees b breaks m n h = λ w low. (refl, low)
 continued_agrees b (returns v) m n h = λ w low. (refl, low)
 
-again_agrees : (b : ℕ) (c : Completion) (m n : Doing Completion) → Agree b b m n → Agree b b (if_again c m) (if_again c n)
+pub round_of_for_agrees : (b : ℕ) (test test' step step' : Doing ℕ) (body body' : Doing Completion) → Agree b b test test' → Agree b b step step' →
+    Agree b b body body' → Agree b b (round_of_for test body step) (round_of_for test' body' step')
+round_of_for_agrees b test test' step step' body body' h k l =
+    then_agree b b b _ _ _ _ h λ x.
+    either_agree b b (x == 0) _ _ _ _ (λ w low. (refl, low))
+    (then_agree b b b _ _ _ _ l λ c. continued_agrees b c _ _ (then_agree b b b _ _ _ _ k (λ y w low. (refl, low))))
+
+pub round_of_do_agrees : (b : ℕ) (test test' : Doing ℕ) (body body' : Doing Completion) → Agree b b test test' →
+    Agree b b body body' → Agree b b (round_of_do body test) (round_of_do body' test')
+round_of_do_agrees b test test' body body' h l =
+    then_agree b b b _ _ _ _ l λ c.
+    continued_agrees b c _ _
+    (then_agree b b b _ _ _ _ h λ x. either_agree b b (x == 0) _ _ _ _ (λ w low. (refl, low)) (λ w low. (refl, low)))
+
+pub again_agrees : (b : ℕ) (c : Completion) (m n : Doing Completion) → Agree b b m n → Agree b b (if_again c m) (if_again c n)
 again_agrees b normal m n h = h
 again_agrees b continues m n h = h
 again_agrees b breaks m n h = λ w low. (refl, low)
 again_agrees b (returns v) m n h = λ w low. (refl, low)
 
-rounds_agree : (part : Part) (line : ℕ) (m n : Doing Completion) (i j c : ℕ) → c ≤ i → c ≤ j → ((d : ℕ) → d ≤ c → Agree d d m n)
+pub rounds_agree : (part : Part) (line : ℕ) (m n : Doing Completion) (i j c : ℕ) → c ≤ i → c ≤ j → ((d : ℕ) → d ≤ c → Agree d d m n)
     → Agree c c (rounds i part line m) (rounds j part line n)
 rounds_agree part line m n zero zero zero h k each = no_turn line 0 part _ _
 rounds_agree part line m n zero (suc j) zero h k each = no_turn line 0 part _ _
@@ -77,7 +91,7 @@ module _ (s : Setting) (other : (line number : ℕ) (arguments : List ℕ) → D
 
   module _ (top : ℕ)
       (calls : (b : ℕ) → b ≤ top → (line number : ℕ) (arguments : List ℕ) → Agree b b (s.call line number arguments) (other line number arguments)) where
-    agrees : (b : ℕ) → b ≤ top → (e : Value) → Agree b b (value_of s e) (value_of after e)
+    pub agrees : (b : ℕ) → b ≤ top → (e : Value) → Agree b b (value_of s e) (value_of after e)
     agrees b low e = value_agrees b s other (calls b low) e
 
     cells_agree : (b : ℕ) → b ≤ top → (n : ℕ) (given : List Cell) → Agree b b (cells_given s n given) (cells_given after n given)
@@ -98,7 +112,7 @@ module _ (s : Setting) (other : (line number : ℕ) (arguments : List ℕ) → D
     all_initialize_agree b low (local ∷ rest) =
         then_agree b b b _ _ _ _ (initializes_agree b low local.number local.initializer) (λ done. all_initialize_agree b low rest)
 
-    value_or_agrees : (b : ℕ) → b ≤ top → (n : ℕ) (e : Option Value) → Agree b b (value_or n s e) (value_or n after e)
+    pub value_or_agrees : (b : ℕ) → b ≤ top → (n : ℕ) (e : Option Value) → Agree b b (value_or n s e) (value_or n after e)
     value_or_agrees b low n None = λ w k. (refl, k)
     value_or_agrees b low n (Some e) = agrees b low e
 
@@ -113,24 +127,10 @@ module _ (s : Setting) (other : (line number : ℕ) (arguments : List ℕ) → D
       loops b low line m n each =
           rounds_agree s.part line m n i j b (omega (arith, low, within)) (omega (arith, low, within')) (λ d k. each d (omega (arith, k, low)))
 
-      round_of_for_agrees : (b : ℕ) (test test' step step' : Doing ℕ) (body body' : Doing Completion) → Agree b b test test' → Agree b b step step' →
-          Agree b b body body' → Agree b b (round_of_for test body step) (round_of_for test' body' step')
-      round_of_for_agrees b test test' step step' body body' h k l =
-          then_agree b b b _ _ _ _ h λ x.
-          either_agree b b (x == 0) _ _ _ _ (λ w low. (refl, low))
-          (then_agree b b b _ _ _ _ l λ c. continued_agrees b c _ _ (then_agree b b b _ _ _ _ k (λ y w low. (refl, low))))
-
-      round_of_do_agrees : (b : ℕ) (test test' : Doing ℕ) (body body' : Doing Completion) → Agree b b test test' →
-          Agree b b body body' → Agree b b (round_of_do body test) (round_of_do body' test')
-      round_of_do_agrees b test test' body body' h l =
-          then_agree b b b _ _ _ _ l λ c.
-          continued_agrees b c _ _
-          (then_agree b b b _ _ _ _ h λ x. either_agree b b (x == 0) _ _ _ _ (λ w low. (refl, low)) (λ w low. (refl, low)))
-
       mutual
         unfolding executes
 
-        statement_agrees : (u : Stmt) (b : ℕ) → b ≤ top → Agree b b (executes s i u) (executes after j u)
+        pub statement_agrees : (u : Stmt) (b : ℕ) → b ≤ top → Agree b b (executes s i u) (executes after j u)
         statement_agrees (block line items end) b low = block_agrees b (locals_of items) _ _ (items_agree items b low)
         statement_agrees (empty line) b low = λ w k. (refl, k)
         statement_agrees (expression line e) b low = then_agree b b b _ _ _ _ (agrees b low e) (λ x w k. (refl, k))

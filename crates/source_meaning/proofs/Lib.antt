@@ -13,3 +13,6 @@ pub mod ValueStart
 pub mod EventLemmas
 pub mod EventExpressions
 pub mod EventStatements
+pub mod Associates
+pub mod Opened
+pub mod Growing
