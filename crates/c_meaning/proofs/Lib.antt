@@ -1,0 +1,16 @@
+pub mod Grouped
+pub mod ExpressionPlans
+pub mod Groups
+pub mod StatementPlans
+pub mod CallPlans
+pub mod GoingGrows
+pub mod PlansRun
+pub mod PlansWeigh
+pub mod Taking
+pub mod TakingSteps
+pub mod TakingValues
+pub mod TakingViews
+pub mod TakingRows
+pub mod TakingRuns
+pub mod TakingJumps
+pub mod TakingBegins
