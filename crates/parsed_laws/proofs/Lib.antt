@@ -2,9 +2,3 @@ pub mod Spelled
 pub mod DeclarationsHave
 pub mod StatementsHave
 pub mod UnitsHave
-pub mod Fitting
-pub mod ExpressionNumbers
-pub mod DeclarationNumbers
-pub mod StatementNumbers
-pub mod TokenNumbers
-pub mod UnitNumbers

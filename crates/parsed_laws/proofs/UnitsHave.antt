@@ -43,7 +43,7 @@ module _ (shift : ℕ → ℕ) where
   pub derived_has : (tokens : List Token) (src : Bytes) (unit : TreeUnit) → Derives tokens src unit → HasUnit unit
   derived_has tokens src unit h = (unit_has src).spelled unit tokens h
 
-pub other_has : (binary : Option Bytes) (unit : Option TreeUnit) → IsParsedIf binary unit → IfThere HasItems (option_map (unit_view binary_line) unit)
+other_has : (binary : Option Bytes) (unit : Option TreeUnit) → IsParsedIf binary unit → IfThere HasItems (option_map (unit_view binary_line) unit)
 other_has None None h = tt
 other_has None (Some unit) h = absurd h
 other_has (Some src) None h = absurd h

@@ -1,6 +1,6 @@
 -- The typed program of the bytes of one or two files: their tokens, the trees that the grammar derives from these, and
 -- the program as which these trees are typed.
-use Rattle.std.specs.Prelude.{ℕ, ◌<◌, List, Option, Some, None, option_map}
+use Rattle.std.specs.Prelude.{ℕ, List, Option, Some, None, option_map}
 use Rattle.c_lexer.specs.declared.token.Token.{Token}
 use Rattle.c_lexer.specs.Tokens.{Lexes}
 use Rattle.c_parser.specs.Units.{Derives}
@@ -8,14 +8,6 @@ use Rattle.c_tree.specs.declared.unit.Unit.{Unit as TreeUnit}
 use Rattle.c_typed.specs.Statements.{Program}
 use Rattle.typing_rules.specs.SourceViews.{unit_view, main_line, binary_line}
 use Rattle.typing_rules.specs.TypingUnits.{Types}
-use Rattle.typing_rules.specs.Laws.{Each}
-
--- each is one of 256
-abbrev pub IsByte : ℕ → Type 0
-IsByte b = b < 256
-
-abbrev pub AreBytes : List ℕ → Type 0
-AreBytes bytes = Each IsByte bytes
 
 -- the tree of a file
 pub record IsParsed (src : List ℕ) (unit : TreeUnit) : Type 0 where

@@ -2,16 +2,13 @@
 
 ghost use Rattle.std.specs.Prelude.{ℕ, List, Option};
 ghost use Rattle.c_lexer.specs.declared.token.Token.{Token};
-ghost use Rattle.c_lexer.specs.Tokens.{Lexes};
 ghost use Rattle.c_parser.specs.Units.{Derives};
 ghost use Rattle.c_tree.specs.declared.unit.Unit.{Unit as TreeUnit};
 ghost use Rattle.c_typed.specs.Statements.{Program};
-ghost use Rattle.source_meaning.specs.Sound.{CanRun};
 ghost use Rattle.typing_rules.specs.SourceViews.{unit_view};
 ghost use Rattle.typing_laws.specs.HasItems.{HasItems};
-ghost use Rattle.typing_laws.specs.LanguagePrograms.{HasTypesOfLanguage, IfThere};
-ghost use Rattle.running_laws.specs.HasNumbers.{HasNumbers};
-ghost use Rattle.parsed_laws.specs.Parsed.{AreBytes, TypesBytes};
+ghost use Rattle.typing_laws.specs.LanguagePrograms.{HasTypesOfLanguage};
+ghost use Rattle.parsed_laws.specs.Parsed.{TypesBytes};
 
 /// A tree that the grammar derives has an item in each list in braces that initializes an array
 /// without a length, whatever its lines become.
@@ -23,17 +20,4 @@ pub fn parsed_units_have_items()
 /// or two files has a type of the language.
 pub fn parsed_programs_have_types()
     ensures { (main : List ℕ) (binary : Option (List ℕ)) (program : Program) → TypesBytes main binary program → HasTypesOfLanguage program }
-{}
-
-/// The number and character constants of a tree that the grammar derives from the tokens of bytes
-/// have 32 bits, whatever its lines become.
-pub fn parsed_units_have_numbers()
-    ensures { (shift : ℕ → ℕ) (tokens : List Token) (src : List ℕ) (unit : TreeUnit) → AreBytes src → Lexes src tokens → Derives tokens src unit
-        → HasNumbers (unit_view shift unit) }
-{}
-
-/// Every typed program of the bytes of one or two files can run.
-pub fn parsed_programs_can_run()
-    ensures { (main : List ℕ) (binary : Option (List ℕ)) (program : Program) → AreBytes main → IfThere AreBytes binary → TypesBytes main binary program
-        → CanRun program }
 {}

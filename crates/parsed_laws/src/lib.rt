@@ -1,11 +1,7 @@
 //! What holds of every typed program that the bytes of one or two files spell: the grammar gives each list in braces an
-//! item (C11 6.7.9p1), and so every such program has types of the language throughout; its constants have 32 bits, and so
-//! every such program can run.
+//! item (C11 6.7.9p1), and so every such program has types of the language throughout.
 #![tactic(auto)]
 
 mod laws;
 
-pub use laws::{
-    parsed_programs_can_run, parsed_programs_have_types, parsed_units_have_items,
-    parsed_units_have_numbers,
-};
+pub use laws::{parsed_programs_have_types, parsed_units_have_items};

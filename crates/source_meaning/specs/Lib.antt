@@ -10,8 +10,7 @@
 --
 -- What a typed program never has, a definition for all trees must answer too: an entity that is nowhere is 0, a value
 -- that is no function traps NotAFunction, and a local without a row is in a register.
--- Quiet, BudgetLaws, Values and EventLaws are no part of the definition: they say what the laws of the crate prove of it;
--- nor is Sound, which says which programs can run.
+-- Quiet, BudgetLaws, Values and EventLaws are no part of the definition: they say what the laws of the crate prove of it.
 pub mod World
 pub mod Places
 pub mod Expressions
