@@ -1,0 +1,6 @@
+pub mod Keeping
+pub mod PartsKeep
+pub mod DeclaratorsKeep
+pub mod TermsKeep
+pub mod InitializersKeep
+pub mod StatementsKeep

@@ -1,0 +1,5 @@
+use Rattle.room_laws.proofs.StatementsKeep.{keeps_items}
+use Rattle.room_laws.proofs.laws.typed_programs_have_room.Goals as goal
+
+pub returns : goal.returns
+returns c = ?
