@@ -4,3 +4,5 @@ pub mod DeclaratorsKeep
 pub mod TermsKeep
 pub mod InitializersKeep
 pub mod StatementsKeep
+pub mod TypesCovered
+pub mod StaticsTotal
