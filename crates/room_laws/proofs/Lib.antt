@@ -6,3 +6,7 @@ pub mod InitializersKeep
 pub mod StatementsKeep
 pub mod TypesCovered
 pub mod StaticsTotal
+pub mod Linkage
+pub mod Counted
+pub mod ObjectsCounted
+pub mod FilesCounted

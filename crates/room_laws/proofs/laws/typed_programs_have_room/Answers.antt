@@ -1,7 +1,5 @@
-use Rattle.room_laws.proofs.StatementsKeep.{keeps_items}
-use Rattle.room_laws.proofs.TypesCovered.{composite_covers}
-use Rattle.room_laws.proofs.StaticsTotal.{text_more}
+use Rattle.room_laws.proofs.FilesCounted.{objects_have_room}
 use Rattle.room_laws.proofs.laws.typed_programs_have_room.Goals as goal
 
 pub returns : goal.returns
-returns c = ?
+returns c = λ main binary program h part. objects_have_room main binary program h part
