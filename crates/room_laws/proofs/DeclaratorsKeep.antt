@@ -10,7 +10,6 @@ use Rattle.typing_rules.specs.Declarators.{AreSpecified, IsDeclared, IsNamedLoca
 use Rattle.room_laws.proofs.Keeping.{Keeps, Stays, keeps_is, keeps_holds, keeps_such, keeps_asks, keeps_makes, keeps_bind, keeps_either}
 
 module _ {I : Known → Type 0} (stays : Stays I) where
-
   pub keeps_specified : (may_store : Test) (s : Specifiers) → Keeps I (AreSpecified may_store s)
   keeps_specified may_store s = keeps_such
 

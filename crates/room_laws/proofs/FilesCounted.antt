@@ -19,17 +19,16 @@ use Rattle.typing_rules.specs.SpecifierRules.{Storage}
 use Rattle.typing_rules.specs.DeclaratorRules.{Derivation, to_pointer, to_array, to_function, name_of, or_no_name, parameter_type}
 use Rattle.typing_rules.specs.DeclarationRules.{fully, with_definition}
 use Rattle.typing_rules.specs.Declarators.{IsDerived}
-use Rattle.typing_rules.specs.UnitRules.{own_parameters, is_defined_in, is_object, static_of, statics_of, typed_file, no_file, nothing_known, binary_begun}
+use Rattle.typing_rules.specs.UnitRules.{own_parameters, is_defined_in, is_object, static_of, statics_of, typed_file, nothing_known, binary_begun}
 use Rattle.typing_rules.specs.TypingUnits.{IsDeclaredAtFile, IsDeclaredAs, IsItemAtFile, AreItemsAtFile, IsFunctionBegun, IsFunctionDefined, AreExternals, IsFile, IsBinary, Types}
-use Rattle.typing_rules.proofs.Exactness.{some_same}
 use Rattle.room_laws.proofs.Keeping.{Keeps, keeps_is, keeps_never, keeps_given, keeps_holds, keeps_such, keeps_such_then, keeps_given_then, keeps_asks, keeps_makes, keeps_bind}
 use Rattle.room_laws.proofs.PartsKeep.{keeps_counted_type}
 use Rattle.room_laws.proofs.DeclaratorsKeep.{keeps_specified}
 use Rattle.room_laws.proofs.TermsKeep.{keeps_derivations}
 use Rattle.room_laws.proofs.StatementsKeep.{keeps_no_initial, keeps_items}
-use Rattle.room_laws.proofs.StaticsTotal.{is_static, own_cells, all_cells, own_no_more, not_both, text_cells}
+use Rattle.room_laws.proofs.StaticsTotal.{is_static, all_cells, own_no_more, not_both, text_cells}
 use Rattle.room_laws.proofs.Linkage.{linkage_set, set_no_more}
-use Rattle.room_laws.proofs.Counted.{Counted, stays_counted, room_less, keeps_linked, IsWell, LinkedAt, linked_at, named_at}
+use Rattle.room_laws.proofs.Counted.{Counted, stays_counted, room_less, keeps_linked, LinkedAt, linked_at, named_at}
 use Rattle.room_laws.proofs.ObjectsCounted.{DefinedSo, defined_so, main_defined, redefined, redefined_grows, object_counted}
 
 -- ---- declarations at file scope

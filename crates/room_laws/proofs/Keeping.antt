@@ -1,8 +1,7 @@
 -- What keeps an invariant of what is known, whichever it is.
-use Rattle.std.proofs.Common.{◌≡◌, ℕ, suc, ◌+◌, ◌≤◌, Bool as Test, List, length, sym, subst, inl, inr}
+use Rattle.std.proofs.Common.{ℕ, suc, ◌+◌, ◌≤◌, Bool as Test, List, length, sym, subst, inl, inr}
 use Rattle.c_types.specs.Types.{CType}
 use Rattle.typing_rules.specs.Source.{Bytes}
-use Rattle.typing_rules.specs.Known as known
 use Rattle.typing_rules.specs.Known.{Known, Scope, Local, Use, with_scopes, with_locals, with_cells, with_text}
 use Rattle.typing_rules.specs.Limits.{most_static_cells}
 use Rattle.typing_rules.specs.Holding.{Typing, Sequence, Is, Such, Given, Holds, Asks, Makes, Either, Never}

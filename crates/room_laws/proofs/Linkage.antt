@@ -1,6 +1,6 @@
 -- What is kept of objects and functions with linkage: each static object is complete, its file declares it once, and it has
 -- as many cells as its names say.
-use Rattle.std.proofs.Common.{◌≡◌, ℕ, ◌≤◌, Bool as Test, true, false, List, [], ◌∷◌, ◌++◌, refl, sym, subst, Some, None, arith}
+use Rattle.std.proofs.Common.{◌≡◌, ℕ, ◌≤◌, Bool as Test, true, false, List, [], ◌∷◌, ◌++◌, refl, sym, subst, arith}
 use Rattle.std.specs.Prelude.{◌&&◌, not, IsTrue, IsFalse, slice_set}
 use Rattle.c_types.specs.Types.{is_function, is_complete, cells_of}
 use Rattle.typing_rules.specs.Known as known

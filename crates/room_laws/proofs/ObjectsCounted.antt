@@ -1,6 +1,6 @@
 -- Definitions of objects keep what is counted: the cells of an object are counted where it is defined for the first time.
 use Rattle.std.proofs.Common.{◌≡◌, ℕ, zero, suc, ◌+◌, ◌≤◌, Bool as Test, true, false, List, [], ◌∷◌, refl, ap, ap₂, sym, subst, ◌∙◌, Option, Some, None, inl, inr, arith}
-use Rattle.std.specs.Prelude.{◌⊎◌, ◌&&◌, not, if◌then◌else◌, IsTrue, IsFalse, slice_set}
+use Rattle.std.specs.Prelude.{◌&&◌, not, if◌then◌else◌, IsTrue, IsFalse, slice_set}
 use Rattle.c_types.specs.Types.{CType, void, integer, pointer, array, returning, taking, Qualified, is_void, is_function, is_complete, cells_of, may_be_one, composite}
 use Rattle.c_typed.specs.Statements.{Cell}
 use Rattle.typing_rules.specs.Source.{Named}
@@ -18,7 +18,7 @@ use Rattle.room_laws.proofs.Keeping.{Stays}
 use Rattle.room_laws.proofs.TypesCovered.{Covers, and_second, composite_function, may_be_other_covers, covers_more, composite_covers}
 use Rattle.room_laws.proofs.InitializersKeep.{keeps_initialized}
 use Rattle.room_laws.proofs.StaticsTotal.{at_own, set_twice, own_cells, all_cells, own_at_most, is_static, one_more, not_both, text_cells}
-use Rattle.room_laws.proofs.Linkage.{Linkage, Grows, grows_itself, grown_no_more, grown_whole, set_no_more, linkage_set, linkage_named}
+use Rattle.room_laws.proofs.Linkage.{Linkage, Grows, grows_itself, grown_no_more, set_no_more, linkage_set, linkage_named}
 use Rattle.room_laws.proofs.Counted.{Counted, room_of_text, IsWell}
 
 -- ---- definitions

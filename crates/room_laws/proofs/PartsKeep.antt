@@ -12,10 +12,9 @@ use Rattle.typing_rules.specs.Limits.{most_static_cells}
 use Rattle.typing_rules.specs.Terms.{Term, object, result, designator, Designated, entity, predeclared, through, Written, Target, Change}
 use Rattle.typing_rules.specs.Holding.{Typing, Makes}
 use Rattle.typing_rules.specs.TypingParts.{IsDesignated, IsValue, IsWritten, IsMeant, IsNamed, IsText, IsIndexed, IsIndirect, IsMarked, IsAddress, IsOpposite, IsPromoted, IsNegative, IsComplement, IsComputed, AreTested, IsConjunction, IsDisjunction, IsChosen, IsTarget, IsAssigned, IsChanged, IsCast, IsUnvalued, IsSized, IsCalled, ArePassed, IsCounted, IsCallThrough, IsCall}
-use Rattle.room_laws.proofs.Keeping.{Keeps, Stays, keeps_is, keeps_never, keeps_given, keeps_holds, keeps_such, keeps_asks, keeps_makes, keeps_bind}
+use Rattle.room_laws.proofs.Keeping.{Keeps, Stays, keeps_is, keeps_never, keeps_holds, keeps_such, keeps_asks, keeps_makes, keeps_bind}
 
 module _ {I : Known → Type 0} (stays : Stays I) where
-
   pub keeps_designated : (line : ℕ) (d : Designated) (type : CType) → Keeps I (IsDesignated line d type)
   keeps_designated line (entity n true) type = keeps_never
   keeps_designated line (entity n false) type = keeps_is

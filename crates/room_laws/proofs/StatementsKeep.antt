@@ -1,6 +1,6 @@
 -- Declarations in blocks and statements keep an invariant that declarations of functions keep.
 use Rattle.std.proofs.Common.{ℕ, Bool as Test, true, false, List, [], ◌∷◌, Option, Some, None}
-use Rattle.c_types.specs.Types.{CType, Qualified, is_function}
+use Rattle.c_types.specs.Types.{CType, Qualified}
 use Rattle.typing_rules.specs.Source.{Named, Expr}
 use Rattle.typing_rules.specs.SourceUnits.{Initial, Item, Declaration, ForStart, starts, declares, Stmt, block, empty, expression, if_only, if_else, while, do_while, for, continue, break, return, Items, no_items, declaration, statement}
 use Rattle.typing_rules.specs.Known as known

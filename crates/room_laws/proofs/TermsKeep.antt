@@ -13,7 +13,6 @@ use Rattle.room_laws.proofs.PartsKeep.{keeps_written, keeps_named, keeps_text, k
 use Rattle.room_laws.proofs.DeclaratorsKeep.{keeps_specified, keeps_parameter, keeps_parameter_list}
 
 module _ {I : Known → Type 0} (stays : Stays I) where
-
   keeps_stepped : (line : ℕ) (c : Change) {S : Typing Term} → Keeps I S → Keeps I (IsStepped line c S)
   keeps_stepped line c h = keeps_bind h (λ term. keeps_bind (keeps_target stays term) (λ target. keeps_changed stays line c target (one_value line)))
 

@@ -1,10 +1,10 @@
 -- Types of declarations of one object have as many cells, once they are complete.
-use Rattle.std.proofs.Common.{◌≡◌, ℕ, ◌*◌, ◌==◌, Bool as Test, true, false, refl, ap₂, sym, subst, ◌∙◌, Option, Some, None, arith}
+use Rattle.std.proofs.Common.{◌≡◌, ℕ, ◌*◌, ◌==◌, Bool as Test, true, false, refl, ap₂, sym, subst, ◌∙◌, Some, None, arith}
 use Rattle.std.specs.Prelude.{◌&&◌, IsTrue}
 use Rattle.std.proofs.lemmas.Bool.Decides.{nat_tests}
 use Rattle.srmt_base.specs.declared.ty.Ty.{Ty}
 use Rattle.srmt_base.specs.declared.ty.Ty.TheVariants.{Bool, Char, SChar, UChar, Short, UShort, Int, UInt}
-use Rattle.c_types.specs.Types.{CType, void, integer, pointer, array, returning, taking, Qualified, is_function, is_complete, same_type, same_length, same_qualifiers, are_for_one, may_be_one, composite, cells_of, cells_of_integer}
+use Rattle.c_types.specs.Types.{CType, void, integer, pointer, array, returning, taking, Qualified, is_function, is_complete, same_type, same_qualifiers, are_for_one, may_be_one, composite, cells_of, cells_of_integer}
 
 -- a type of an object covers another where it is complete and has as many cells
 pub record Covers (t e : CType) : Type 0 where
