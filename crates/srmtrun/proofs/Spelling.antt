@@ -1,34 +1,43 @@
 -- Words are the parts of at most one command.
-use Rattle.std.proofs.Common.{◌≡◌, ◌⊎◌, inl, inr, ℕ, Bool, true, false, not, List, [], ◌∷◌, ◌++◌, map, codes, Option, Some, None, refl, sym, ap, subst, ◌∙◌, append_assoc, append-nil}
-use Rattle.std.specs.Prelude.{◌<◌, suc, ◌≤◌, drop, get_or, ◌&&◌, ◌==◌, IfNone, if◌then◌else◌, length, IsTrue, option_to_list, is_none, nat_eq, String, string_bytes}
+use Rattle.std.proofs.Common.{◌≡◌, ◌⊎◌, inl, inr, ℕ, Bool, true, false, not, List, [], ◌∷◌, ◌++◌, map, codes, Option, Some, None, Result, Ok, Err, refl, sym, ap, subst, ◌∙◌, append_assoc, append-nil}
+use Rattle.std.specs.Prelude.{◌<◌, suc, ◌≤◌, drop, get_or, decimal, ◌&&◌, ◌==◌, IfNone, if◌then◌else◌, length, IsTrue, nat_le, ◌^◌, option_to_list, is_none, nat_eq, String, string_bytes}
 use Rattle.std.specs.declared.alloc.Global.{Global}
 use Rattle.std.specs.List.{flat_map}
 use Rattle.std.specs.Cmp.Lexicographic.{pointwise}
+use Rattle.std.specs.Str.{bytes_eq}
 use Rattle.std.proofs.Common.{arith, rules}
 use Rattle.std.proofs.lemmas.Grind.{flat_map-append}
 use Rattle.std.proofs.lemmas.List.{flat_map_more}
+use Rattle.std.proofs.lemmas.Fmt.{decimal_injective, parse-decimal}
+use Rattle.std.proofs.lemmas.Slice.Eq.{bytes_eq-Decides}
+use Rattle.std.proofs.lemmas.Bool.Decides.{nat_tests}
+use Rattle.std.specs.Bool.{then_some}
+use Rattle.std.specs.Str.Parse.{ParsesUnsigned}
 use Rattle.srmtrun.specs.declared.words.Mode.{Mode}
-use Rattle.srmtrun.specs.declared.words.Mode.TheVariants.{Single, Alternate, Check}
+use Rattle.srmtrun.specs.declared.words.Mode.TheVariants.{Single, Alternate, Reference, Check}
 use Rattle.srmtrun.specs.declared.words.Question.{Question}
 use Rattle.srmtrun.specs.declared.words.Question.TheVariants.{Help, Version}
 use Rattle.srmtrun.specs.declared.words.Flag.{Flag}
 use Rattle.srmtrun.specs.declared.words.Flag.TheVariants as flag
-use Rattle.srmtrun.specs.Words.{flag_of, names_file, names_source, Command, Part, moded, main_file, binary_file, input_file, spell, IsNamed, AreNamed, mode_in, program_in, binary_in, input_in, MayHaveFiles, Takes, Asks, texts}
+use Rattle.srmtrun.specs.Words.{flag_of, names_file, names_source, Command, Part, moded, main_file, binary_file, input_file, turn_limit, spell, IsNamed, AreNamed, mode_in, program_in, binary_in, input_in, turns_in, IsTurns, MayHaveOptions, Takes, Asks, texts}
 use Rattle.srmtrun.specs.Reading.{text_of, Said, Begins, added, Says, SaysBefore, IsCommand}
 
 -- ---- flags
 
 abbrev flag_read : List ℕ → Option Flag
 flag_read word = if pointwise nat_eq word (codes "--single") then Some (flag.Mode Single) else (if pointwise nat_eq word (codes "--alternate") then Some (flag.Mode Alternate)
-    else (if pointwise nat_eq word (codes "--check") then Some (flag.Mode Check) else (if pointwise nat_eq word (codes "--binary") then Some flag.Binary
-    else (if pointwise nat_eq word (codes "--input") then Some flag.Input else None))))
+    else (if pointwise nat_eq word (codes "--check") then Some (flag.Mode Check) else (if pointwise nat_eq word (codes "--reference") then Some (flag.Mode Reference)
+    else (if pointwise nat_eq word (codes "--binary") then Some flag.Binary else (if pointwise nat_eq word (codes "--input") then Some flag.Input
+    else (if pointwise nat_eq word (codes "--turns") then Some flag.Turns else None))))))
 
 read_again : (f : Flag) → flag_read (text_of f) ≡ Some f
 read_again (flag.Mode Single) = refl
 read_again (flag.Mode Alternate) = refl
+read_again (flag.Mode Reference) = refl
 read_again (flag.Mode Check) = refl
 read_again flag.Binary = refl
 read_again flag.Input = refl
+read_again flag.Turns = refl
 
 pub one_flag : (f g : Flag) → text_of f ≡ text_of g → f ≡ g
 one_flag f g e = let same : Some f ≡ Some g = sym (read_again f) ∙ ap flag_read e ∙ read_again g in cc
@@ -37,9 +46,11 @@ one_flag f g e = let same : Some f ≡ Some g = sym (read_again f) ∙ ap flag_r
 pub no_file : (f : Flag) → names_file (text_of f) ≡ false
 no_file (flag.Mode Single) = refl
 no_file (flag.Mode Alternate) = refl
+no_file (flag.Mode Reference) = refl
 no_file (flag.Mode Check) = refl
 no_file flag.Binary = refl
 no_file flag.Input = refl
+no_file flag.Turns = refl
 
 pub no_flag : (f : Flag) (name : List ℕ) → IsTrue (names_source name) → name ≡ text_of f → ⊥
 no_flag f name source e = let none = ap names_file e ∙ no_file f in let both : names_source name ≡ true = source in absurd (search (rules, none, both))
@@ -60,6 +71,11 @@ no_words (moded m) r e = cc
 no_words (main_file n) r e = cc
 no_words (binary_file n) r e = cc
 no_words (input_file n) r e = cc
+no_words (turn_limit n) r e = cc
+
+-- a number has one text
+one_number : (m n : ℕ) → IsTurns m → IsTurns n → decimal m ≡ decimal n → m ≡ n
+one_number m n h k e = decimal_injective m n (let l = h.most in omega arith) (let l = k.most in omega arith) e
 
 pub one_part : (p q : Part) (r s : List (List ℕ)) → spell p ++ r ≡ spell q ++ s → IsNamed p → IsNamed q → (p ≡ q) × (r ≡ s)
 one_part (moded m) (moded n) r s e h k =
@@ -69,20 +85,31 @@ one_part (moded m) (moded n) r s e h k =
 one_part (moded m) (main_file n) r s e h k = absurd (named_apart (flag.Mode m) n r s k e)
 one_part (moded m) (binary_file n) r s e h k = absurd (apart (flag.Mode m) flag.Binary r (n ∷ s) (λ o. cc) e)
 one_part (moded m) (input_file n) r s e h k = absurd (apart (flag.Mode m) flag.Input r (n ∷ s) (λ o. cc) e)
+one_part (moded m) (turn_limit n) r s e h k = absurd (apart (flag.Mode m) flag.Turns r (decimal n ∷ s) (λ o. cc) e)
 one_part (main_file m) (moded n) r s e h k = absurd (named_apart (flag.Mode n) m s r h (sym e))
 one_part (main_file m) (main_file n) r s e h k = let both = heads m n r s e in (ap main_file both.0, both.1)
 one_part (main_file m) (binary_file n) r s e h k = absurd (named_apart flag.Binary m (n ∷ s) r h (sym e))
 one_part (main_file m) (input_file n) r s e h k = absurd (named_apart flag.Input m (n ∷ s) r h (sym e))
+one_part (main_file m) (turn_limit n) r s e h k = absurd (named_apart flag.Turns m (decimal n ∷ s) r h (sym e))
 one_part (binary_file m) (moded n) r s e h k = absurd (apart flag.Binary (flag.Mode n) (m ∷ r) s (λ o. cc) e)
 one_part (binary_file m) (main_file n) r s e h k = absurd (named_apart flag.Binary n (m ∷ r) s k e)
 one_part (binary_file m) (binary_file n) r s e h k =
     let both = heads m n r s (heads (codes "--binary") (codes "--binary") (m ∷ r) (n ∷ s) e).1 in (ap binary_file both.0, both.1)
 one_part (binary_file m) (input_file n) r s e h k = absurd (apart flag.Binary flag.Input (m ∷ r) (n ∷ s) (λ o. cc) e)
+one_part (binary_file m) (turn_limit n) r s e h k = absurd (apart flag.Binary flag.Turns (m ∷ r) (decimal n ∷ s) (λ o. cc) e)
 one_part (input_file m) (moded n) r s e h k = absurd (apart flag.Input (flag.Mode n) (m ∷ r) s (λ o. cc) e)
 one_part (input_file m) (main_file n) r s e h k = absurd (named_apart flag.Input n (m ∷ r) s k e)
 one_part (input_file m) (binary_file n) r s e h k = absurd (apart flag.Input flag.Binary (m ∷ r) (n ∷ s) (λ o. cc) e)
 one_part (input_file m) (input_file n) r s e h k =
     let both = heads m n r s (heads (codes "--input") (codes "--input") (m ∷ r) (n ∷ s) e).1 in (ap input_file both.0, both.1)
+one_part (input_file m) (turn_limit n) r s e h k = absurd (apart flag.Input flag.Turns (m ∷ r) (decimal n ∷ s) (λ o. cc) e)
+one_part (turn_limit m) (moded n) r s e h k = absurd (apart flag.Turns (flag.Mode n) (decimal m ∷ r) s (λ o. cc) e)
+one_part (turn_limit m) (main_file n) r s e h k = absurd (named_apart flag.Turns n (decimal m ∷ r) s k e)
+one_part (turn_limit m) (binary_file n) r s e h k = absurd (apart flag.Turns flag.Binary (decimal m ∷ r) (n ∷ s) (λ o. cc) e)
+one_part (turn_limit m) (input_file n) r s e h k = absurd (apart flag.Turns flag.Input (decimal m ∷ r) (n ∷ s) (λ o. cc) e)
+one_part (turn_limit m) (turn_limit n) r s e h k =
+    let both = heads (decimal m) (decimal n) r s (heads (codes "--turns") (codes "--turns") (decimal m ∷ r) (decimal n ∷ s) e).1 in
+    (ap turn_limit (one_number m n h k both.0), both.1)
 
 -- words that begin with neither a flag nor the name of a source begin with no part
 pub no_part : (word : List ℕ) (behind : List (List ℕ)) → names_source word ≡ false → ((f : Flag) → word ≡ text_of f → ⊥) → (p : Part) (rest : List (List ℕ)) → Begins (word ∷ behind) p rest → ⊥
@@ -91,6 +118,7 @@ no_part word behind source none (main_file n) rest b =
     let other : IsTrue false = subst IsTrue (sym (ap names_source (heads word n behind rest b.spelled).0) ∙ source) b.named in absurd cc
 no_part word behind source none (binary_file n) rest b = none flag.Binary (heads word (codes "--binary") behind (n ∷ rest) b.spelled).0
 no_part word behind source none (input_file n) rest b = none flag.Input (heads word (codes "--input") behind (n ∷ rest) b.spelled).0
+no_part word behind source none (turn_limit n) rest b = none flag.Turns (heads word (codes "--turns") behind (decimal n ∷ rest) b.spelled).0
 
 -- ---- lists of parts
 
@@ -149,6 +177,7 @@ adds s next (moded m) ps e says =
       program = unchanged program_in ps (moded m) refl ∙ says.program;
       binary = unchanged binary_in ps (moded m) refl ∙ says.binary;
       input = unchanged input_in ps (moded m) refl ∙ says.input;
+      turns = unchanged turns_in ps (moded m) refl ∙ says.turns;
     })
 adds s next (main_file n) ps e says =
     let w = when_none s.program (record s { program = Some n }) next e in
@@ -157,6 +186,7 @@ adds s next (main_file n) ps e says =
       program = first_one program_in ps (main_file n) n refl (says.program ∙ ap option_to_list w.0);
       binary = unchanged binary_in ps (main_file n) refl ∙ says.binary;
       input = unchanged input_in ps (main_file n) refl ∙ says.input;
+      turns = unchanged turns_in ps (main_file n) refl ∙ says.turns;
     })
 adds s next (binary_file n) ps e says =
     let w = when_none s.binary (record s { binary = Some n }) next e in
@@ -165,6 +195,7 @@ adds s next (binary_file n) ps e says =
       program = unchanged program_in ps (binary_file n) refl ∙ says.program;
       binary = first_one binary_in ps (binary_file n) n refl (says.binary ∙ ap option_to_list w.0);
       input = unchanged input_in ps (binary_file n) refl ∙ says.input;
+      turns = unchanged turns_in ps (binary_file n) refl ∙ says.turns;
     })
 adds s next (input_file n) ps e says =
     let w = when_none s.input (record s { input = Some n }) next e in
@@ -173,6 +204,16 @@ adds s next (input_file n) ps e says =
       program = unchanged program_in ps (input_file n) refl ∙ says.program;
       binary = unchanged binary_in ps (input_file n) refl ∙ says.binary;
       input = first_one input_in ps (input_file n) n refl (says.input ∙ ap option_to_list w.0);
+      turns = unchanged turns_in ps (input_file n) refl ∙ says.turns;
+    })
+adds s next (turn_limit n) ps e says =
+    let w = when_none s.turns (record s { turns = Some n }) next e in
+    subst (λ (t : Said). Says (ps ++ turn_limit n ∷ []) t) w.1 (record {
+      mode = unchanged mode_in ps (turn_limit n) refl ∙ says.mode;
+      program = unchanged program_in ps (turn_limit n) refl ∙ says.program;
+      binary = unchanged binary_in ps (turn_limit n) refl ∙ says.binary;
+      input = unchanged input_in ps (turn_limit n) refl ∙ says.input;
+      turns = first_one turns_in ps (turn_limit n) n refl (says.turns ∙ ap option_to_list w.0);
     })
 
 refuses : (s t : Said) (p : Part) (ps more : List Part) → added s p ≡ None → Says ps s → Says (ps ++ p ∷ more) t → ⊥
@@ -184,14 +225,16 @@ refuses s t (binary_file n) ps more e says all =
     let w = when_some s.binary (record s { binary = Some n }) e in twice binary_in ps (binary_file n) more w.0 n t.binary (says.binary ∙ ap option_to_list w.1) refl all.binary
 refuses s t (input_file n) ps more e says all =
     let w = when_some s.input (record s { input = Some n }) e in twice input_in ps (input_file n) more w.0 n t.input (says.input ∙ ap option_to_list w.1) refl all.input
+refuses s t (turn_limit n) ps more e says all =
+    let w = when_some s.turns (record s { turns = Some n }) e in twice turns_in ps (turn_limit n) more w.0 n t.turns (says.turns ∙ ap option_to_list w.1) refl all.turns
 
 -- ---- commands
 
 abbrev all_of : Command → Said
-all_of c = record { mode = Some c.mode; program = Some c.program; binary = c.binary; input = c.input }
+all_of c = record { mode = Some c.mode; program = Some c.program; binary = c.binary; input = c.input; turns = c.turns }
 
 said_by : (words : List (List ℕ)) (c : Command) (t : Takes words c) → Says t.parts (all_of c)
-said_by words c t = record { mode = t.mode; program = t.program; binary = t.binary; input = t.input }
+said_by words c t = record { mode = t.mode; program = t.program; binary = t.binary; input = t.input; turns = t.turns }
 
 -- the parts of words that are taken go on where words were read
 module _ (words left : List (List ℕ)) (said : Said) (b : SaysBefore words left said) (c : Command) (t : Takes words c) where
@@ -232,8 +275,8 @@ goes_on words left behind said next p b begins e = record {
   says = adds said next p b.parts e b.says;
 }
 
-pub begun : (words : List (List ℕ)) → SaysBefore words words (record { mode = None; program = None; binary = None; input = None })
-begun words = record { parts = []; spelled = refl; named = tt; says = record { mode = refl; program = refl; binary = refl; input = refl } }
+pub begun : (words : List (List ℕ)) → SaysBefore words words (record { mode = None; program = None; binary = None; input = None; turns = None })
+begun words = record { parts = []; spelled = refl; named = tt; says = record { mode = refl; program = refl; binary = refl; input = refl; turns = refl } }
 
 -- the same parts
 parts_once : (words : List (List ℕ)) (said : Said) (b : SaysBefore words [] said) (c : Command) (t : Takes words c) → Says b.parts (all_of c)
@@ -248,7 +291,8 @@ is_command words said b c t =
       program = same_option said.program (Some c.program) (sym b.says.program ∙ all.program);
       binary = same_option said.binary c.binary (sym b.says.binary ∙ all.binary);
       input = same_option said.input c.input (sym b.says.input ∙ all.input);
-      files = t.files;
+      turns = same_option said.turns c.turns (sym b.says.turns ∙ all.turns);
+      options = t.options;
     }
 
 pub takes_said : (words : List (List ℕ)) (said : Said) → SaysBefore words [] said → (c : Command) → IsCommand said c → Takes words c
@@ -260,12 +304,13 @@ takes_said words said b c is = record {
   program = b.says.program ∙ ap option_to_list is.program;
   binary = b.says.binary ∙ ap option_to_list is.binary;
   input = b.says.input ∙ ap option_to_list is.input;
-  files = is.files;
+  turns = b.says.turns ∙ ap option_to_list is.turns;
+  options = is.options;
 }
 
-pub same_command : (m n : Mode) (p q : List ℕ) (b d i j : Option (List ℕ)) → m ≡ n → p ≡ q → b ≡ d → i ≡ j
-    → Path Command (record { mode = m; program = p; binary = b; input = i }) (record { mode = n; program = q; binary = d; input = j })
-same_command m n p q b d i j e f g h = cc
+pub same_command : (m n : Mode) (p q : List ℕ) (b d i j : Option (List ℕ)) (t u : Option ℕ) → m ≡ n → p ≡ q → b ≡ d → i ≡ j → t ≡ u
+    → Path Command (record { mode = m; program = p; binary = b; input = i; turns = t }) (record { mode = n; program = q; binary = d; input = j; turns = u })
+same_command m n p q b d i j t u e f g h k = cc
 
 pub one_command : (words : List (List ℕ)) (c d : Command) → Takes words c → Takes words d → c ≡ d
 one_command words c d t u =
@@ -274,7 +319,7 @@ one_command words c d t u =
     let is = is_command words said b d u in
     let modes : c.mode ≡ d.mode = let e = is.mode in cc in
     let programs : c.program ≡ d.program = let e = is.program in cc in
-    same_command c.mode d.mode c.program d.program c.binary d.binary c.input d.input modes programs is.binary is.input
+    same_command c.mode d.mode c.program d.program c.binary d.binary c.input d.input c.turns d.turns modes programs is.binary is.input is.turns
 
 -- ---- the words of the code
 
@@ -287,6 +332,7 @@ longer (moded m) r = omega arith
 longer (main_file n) r = omega arith
 longer (binary_file n) r = omega arith
 longer (input_file n) r = omega arith
+longer (turn_limit n) r = omega arith
 
 pub fewer : (left behind : List (String Global)) (p : Part) → Begins (texts left) p (texts behind) → length behind < length left
 fewer left behind p begins =
@@ -323,17 +369,45 @@ module _ (words : List (List ℕ)) (command : Command) (t : Takes words command)
       let same = (heads n q (flat_map spell rest) [] (sym s ∙ e)).0 in let no : names_file n ≡ false = ap names_file same ∙ none in let both : names_source n ≡ true = h.0 in absurd (search (rules, no, both))
   not_alone (binary_file n ∷ rest) s h k = let more = (heads (codes "--binary") q (n ∷ flat_map spell rest) [] (sym s ∙ e)).1 in cc
   not_alone (input_file n ∷ rest) s h k = let more = (heads (codes "--input") q (n ∷ flat_map spell rest) [] (sym s ∙ e)).1 in cc
+  not_alone (turn_limit n ∷ rest) s h k = let more = (heads (codes "--turns") q (decimal n ∷ flat_map spell rest) [] (sym s ∙ e)).1 in cc
 
 no_mode_help : (mode : Mode) → flag_of mode ≡ codes "--help" → ⊥
 no_mode_help Single e = cc
 no_mode_help Alternate e = cc
+no_mode_help Reference e = cc
 no_mode_help Check e = cc
 
 no_mode_version : (mode : Mode) → flag_of mode ≡ codes "--version" → ⊥
 no_mode_version Single e = cc
 no_mode_version Alternate e = cc
+no_mode_version Reference e = cc
 no_mode_version Check e = cc
 
 pub is_no_question : (words : List (List ℕ)) (command : Command) → Takes words command → (question : Question) → Asks words question → ⊥
 is_no_question words command t Help e = not_alone words command t (codes "--help") refl no_mode_help e t.parts t.spelled t.named t.mode
 is_no_question words command t Version e = not_alone words command t (codes "--version") refl no_mode_version e t.parts t.spelled t.named t.mode
+
+-- ---- numbers
+
+-- a word that is read as no number is what is written for none
+pub no_number : {E : Type 0} (word : List ℕ) (r : Result ℕ E) (e : E) → r ≡ Err e → ParsesUnsigned 64 10 word r → (number : ℕ) → word ≡ decimal number → number < 2 ^ 64 → ⊥
+no_number word r e is parses number same small = let read = parse-decimal 64 number word r small small same parses in cc
+
+-- a word that is not what is written for the number as which it is read is what is written for none
+pub other_number : {E : Type 0} (word : List ℕ) (r : Result ℕ E) (found : ℕ) (b : Bool) → r ≡ Ok found → ParsesUnsigned 64 10 word r → b ≡ pointwise nat_eq word (decimal found)
+    → IfNone (then_some b found) ((number : ℕ) → word ≡ decimal number → number < 2 ^ 64 → ⊥)
+other_number word r found true is parses same = tt
+other_number word r found false is parses same = λ number e small.
+    let read = parse-decimal 64 number word r small small e parses in
+    let one : found ≡ number = cc in
+    let equal : bytes_eq word (decimal found) ≡ true = (bytes_eq-Decides word (decimal found)).1 (e ∙ ap decimal (sym one)) in
+    let no : false ≡ true = same ∙ equal in absurd cc
+
+-- a number that is too small or too large is none of turns
+pub other_turns : (word : List ℕ) (found : ℕ) (b : Bool) → word ≡ decimal found → found < 2 ^ 64 → b ≡ (nat_le 1 found && nat_le found 1000000000000)
+    → IfNone (then_some b found) ((turns : ℕ) → word ≡ decimal turns → IsTurns turns → ⊥)
+other_turns word found true e small same = tt
+other_turns word found false e small same = λ turns f is.
+    let least = is.least in let most = is.most in
+    let one : found ≡ turns = decimal_injective found turns small (omega arith) (sym e ∙ f) in
+    grind (arith, nat_tests, same, one, least, most)

@@ -8,24 +8,33 @@ use Rattle.srmtrun.specs.declared.words.Part.TheVariants as code
 use Rattle.srmtrun.specs.declared.words.Said as code_said
 use Rattle.srmtrun.specs.declared.words.Flag.{Flag}
 use Rattle.srmtrun.specs.declared.words.Flag.TheVariants as flag
-use Rattle.srmtrun.specs.Words.{flag_of, Command, Part, moded, main_file, binary_file, input_file, spell, IsNamed, AreNamed, mode_in, program_in, binary_in, input_in, MayHaveFiles}
+use Rattle.srmtrun.specs.Words.{flag_of, Command, Part, moded, main_file, binary_file, input_file, turn_limit, spell, IsNamed, AreNamed, mode_in, program_in, binary_in, input_in, turns_in, MayHaveOptions}
 
 -- the word of a flag
 abbrev pub text_of : Flag → List ℕ
 text_of (flag.Mode mode) = flag_of mode
 text_of flag.Binary = codes "--binary"
 text_of flag.Input = codes "--input"
+text_of flag.Turns = codes "--turns"
 
 -- ---- what the values of the code stand for
 
 abbrev pub command_of : code_command.Command → Command
-command_of c = record { mode = c.mode; program = c.program.now; binary = option_map (λ name. name.now) c.binary; input = option_map (λ name. name.now) c.input }
+command_of c =
+    record {
+      mode = c.mode;
+      program = c.program.now;
+      binary = option_map (λ name. name.now) c.binary;
+      input = option_map (λ name. name.now) c.input;
+      turns = c.turns;
+    }
 
 abbrev pub part_of : code_part.Part → Part
 part_of (code.Mode mode) = moded mode
 part_of (code.Program name) = main_file name.now
 part_of (code.Binary name) = binary_file name.now
 part_of (code.Input name) = input_file name.now
+part_of (code.Turns turns) = turn_limit turns
 
 -- what parts have said so far
 pub record Said : Type 0 where
@@ -33,6 +42,7 @@ pub record Said : Type 0 where
   pub program : Option (List ℕ)
   pub binary : Option (List ℕ)
   pub input : Option (List ℕ)
+  pub turns : Option ℕ
 
 abbrev pub said_of : code_said.Said → Said
 said_of s =
@@ -41,6 +51,7 @@ said_of s =
       program = option_map (λ name. name.now) s.program;
       binary = option_map (λ name. name.now) s.binary;
       input = option_map (λ name. name.now) s.input;
+      turns = s.turns;
     }
 
 -- ---- parts
@@ -56,6 +67,7 @@ added s (moded mode) = if is_none s.mode then Some (record s { mode = Some mode 
 added s (main_file name) = if is_none s.program then Some (record s { program = Some name }) else None
 added s (binary_file name) = if is_none s.binary then Some (record s { binary = Some name }) else None
 added s (input_file name) = if is_none s.input then Some (record s { input = Some name }) else None
+added s (turn_limit turns) = if is_none s.turns then Some (record s { turns = Some turns }) else None
 
 -- what parts say
 pub record Says (parts : List Part) (said : Said) : Type 0 where
@@ -63,6 +75,7 @@ pub record Says (parts : List Part) (said : Said) : Type 0 where
   pub program : flat_map program_in parts ≡ option_to_list said.program
   pub binary : flat_map binary_in parts ≡ option_to_list said.binary
   pub input : flat_map input_in parts ≡ option_to_list said.input
+  pub turns : flat_map turns_in parts ≡ option_to_list said.turns
 
 -- the words are parts that say this, and these words behind them
 pub record SaysBefore (words left : List (List ℕ)) (said : Said) : Type 0 where
@@ -77,4 +90,5 @@ pub record IsCommand (said : Said) (command : Command) : Type 0 where
   pub program : said.program ≡ Some command.program
   pub binary : said.binary ≡ command.binary
   pub input : said.input ≡ command.input
-  pub files : MayHaveFiles command
+  pub turns : said.turns ≡ command.turns
+  pub options : MayHaveOptions command

@@ -1,8 +1,14 @@
-ghost use Rattle.std.specs.Prelude.{◌≡◌, ◌∷◌, [], ℕ, List, Option, option_map, IfSome, IfNone, IsTrue};
+ghost use Rattle.std.specs.Prelude.{◌≡◌, ◌<◌, ◌^◌, ◌∷◌, [], ℕ, List, Option, option_map, IfSome, IfNone, IsTrue, decimal, nat_eq, nat_le, ◌&&◌};
+ghost use Rattle.std.specs.Cmp.Lexicographic.{pointwise};
 ghost use Rattle.srmtrun.specs.declared.words.Flag.{Flag as Flag'};
 ghost use Rattle.srmtrun.specs.declared.words.Question.{Question};
-ghost use Rattle.srmtrun.specs.Words.{texts, Command as Command', Part as Part', names_file, names_source, Takes, Asks};
+ghost use Rattle.srmtrun.specs.Words.{texts, Command as Command', Part as Part', takes_form, IsTurns, names_file, names_source, Takes, Asks};
 ghost use Rattle.srmtrun.specs.Reading.{text_of, command_of, part_of, said_of, Begins, added, SaysBefore, IsCommand};
+
+use itoa::Buffer;
+
+/// The most turns that a program can be given.
+const MOST_TURNS: u64 = 1_000_000_000_000;
 
 /// How a program is served.
 #[derive(Clone, Copy, Debug, PartialEq, Eq)]
@@ -11,8 +17,22 @@ pub enum Mode {
     Single,
     /// By both sides in turn: `--alternate`.
     Alternate,
+    /// By its meaning, on the typed tree: `--reference`.
+    Reference,
     /// Not at all: it is only checked, `--check`.
     Check,
+}
+
+impl Mode {
+    /// Whether the program is to be of the first form, without a binary file, an input or limits of its own.
+    pub(crate) fn takes_form(self) -> bool
+        ensures { result ≡ takes_form self }
+    {
+        match self {
+            Mode::Single | Mode::Alternate => true,
+            Mode::Reference | Mode::Check => false,
+        }
+    }
 }
 
 /// What a word that stands alone asks of the program itself.
@@ -25,7 +45,7 @@ pub enum Question {
 }
 
 /// The words of a command: a mode, the name of the main file and, where they are given, the names of the binary file and
-/// of the input.
+/// of the input, and how many turns the program may take.
 #[derive(Clone, Copy, Debug)]
 pub struct Command<'w> {
     pub mode: Mode,
@@ -34,6 +54,8 @@ pub struct Command<'w> {
     pub binary: Option<&'w str>,
     /// `--input`
     pub input: Option<&'w str>,
+    /// `--turns`
+    pub turns: Option<u64>,
 }
 
 /// A word that begins with `--`.
@@ -42,6 +64,7 @@ enum Flag {
     Mode(Mode),
     Binary,
     Input,
+    Turns,
 }
 
 /// A part of a command: one word, or an option with its value.
@@ -51,6 +74,7 @@ enum Part<'w> {
     Program(&'w str),
     Binary(&'w str),
     Input(&'w str),
+    Turns(u64),
 }
 
 /// What the parts of a command have said so far, each thing at most once.
@@ -60,6 +84,7 @@ struct Said<'w> {
     program: Option<&'w str>,
     binary: Option<&'w str>,
     input: Option<&'w str>,
+    turns: Option<u64>,
 }
 
 /// What the words ask, where they are one question.
@@ -98,6 +123,7 @@ fn read_parts(words: &[String]) -> Option<Said<'_>>
         program: None,
         binary: None,
         input: None,
+        turns: None,
     };
     let mut left = words;
     while !left.is_empty() {
@@ -127,6 +153,10 @@ fn first_part(words: &[String]) -> Option<(Part<'_>, &[String])>
             Some((name, behind)) => Some((Part::Input(name), behind)),
             None => None,
         },
+        Some(Flag::Turns) => match first_turns(behind) {
+            Some((turns, behind)) => Some((Part::Turns(turns), behind)),
+            None => None,
+        },
         None if names_source(word) => Some((Part::Program(word), behind)),
         None => None,
     }
@@ -144,6 +174,57 @@ fn first_file(words: &[String]) -> Option<(&str, &[String])>
     names_file(word).then_some((word, behind))
 }
 
+/// The number of turns with which some words begin, and the words behind it.
+fn first_turns(words: &[String]) -> Option<(u64, &[String])>
+    ensures some { IfSome result (λ found. (texts words.now ≡ decimal found.0 ∷ texts found.1.now) × IsTurns found.0) }
+    ensures none { IfNone result ((turns : ℕ) (behind : List (List ℕ)) → texts words.now ≡ decimal turns ∷ behind → IsTurns turns → ⊥) }
+{
+    let [word, behind @ ..] = words else {
+        return None;
+    };
+    match turns_of(word.as_str()) {
+        Some(turns) => Some((turns, behind)),
+        None => None,
+    }
+}
+
+/// The number of turns that a word gives.
+fn turns_of(word: &str) -> Option<u64>
+    ensures some { IfSome result (λ turns. (word.now ≡ decimal turns) × IsTurns turns) }
+    ensures none { IfNone result ((turns : ℕ) → word.now ≡ decimal turns → IsTurns turns → ⊥) }
+{
+    match number_of(word) {
+        Some(number) => is_turns(number).then_some(number),
+        None => None,
+    }
+}
+
+/// Whether a program can be given so many turns.
+fn is_turns(number: u64) -> bool
+    ensures { result ≡ nat_le 1 number && nat_le number 1000000000000 }
+{
+    1 <= number && number <= MOST_TURNS
+}
+
+/// The number that a word gives, with neither a sign nor a 0 before other digits.
+fn number_of(word: &str) -> Option<u64>
+    ensures some { IfSome result (λ number. word.now ≡ decimal number) }
+    ensures none { IfNone result ((number : ℕ) → word.now ≡ decimal number → number < 2 ^ 64 → ⊥) }
+{
+    match word.parse() {
+        Ok(number) => is_decimal(word, number).then_some(number),
+        Err(_) => None,
+    }
+}
+
+/// Whether a word is what is written for a number.
+fn is_decimal(word: &str, number: u64) -> bool
+    ensures { result ≡ pointwise nat_eq word.now (decimal number) }
+{
+    let mut digits = Buffer::new();
+    word == digits.format(number)
+}
+
 /// The flag that a word is.
 fn flag_of(word: &str) -> Option<Flag>
     ensures some { IfSome result (λ flag. word.now ≡ text_of flag) }
@@ -152,9 +233,11 @@ fn flag_of(word: &str) -> Option<Flag>
     match word {
         "--single" => Some(Flag::Mode(Mode::Single)),
         "--alternate" => Some(Flag::Mode(Mode::Alternate)),
+        "--reference" => Some(Flag::Mode(Mode::Reference)),
         "--check" => Some(Flag::Mode(Mode::Check)),
         "--binary" => Some(Flag::Binary),
         "--input" => Some(Flag::Input),
+        "--turns" => Some(Flag::Turns),
         _ => None,
     }
 }
@@ -195,11 +278,15 @@ impl<'w> Said<'w> {
                 input: Some(name),
                 ..self
             }),
+            Part::Turns(turns) if self.turns.is_none() => Some(Said {
+                turns: Some(turns),
+                ..self
+            }),
             _ => None,
         }
     }
 
-    /// The command that is said. It has files beside the main file only where the program is checked.
+    /// The command that is said. It has options only where its mode takes every source.
     fn command(self) -> Option<Command<'w>>
         ensures some { IfSome result (λ command. IsCommand (said_of self.entry) (command_of command)) }
         ensures none { IfNone result ((command : Command') → IsCommand (said_of self.entry) command → ⊥) }
@@ -207,12 +294,13 @@ impl<'w> Said<'w> {
         let (Some(mode), Some(program)) = (self.mode, self.program) else {
             return None;
         };
-        let alone = self.binary.is_none() && self.input.is_none();
-        (alone || mode == Mode::Check).then_some(Command {
+        let plain = self.binary.is_none() && self.input.is_none() && self.turns.is_none();
+        (plain || !mode.takes_form()).then_some(Command {
             mode,
             program,
             binary: self.binary,
             input: self.input,
+            turns: self.turns,
         })
     }
 }
