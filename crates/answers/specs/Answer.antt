@@ -42,11 +42,12 @@ abbrev pub final_status : Bool → RunAnswer → ℕ
 final_status true answer = status_of answer
 final_status false answer = 124
 
--- the program was not run
+-- the answer tells that the program was not run; where memory ran out, it may have been
 abbrev pub NeverRan : RunAnswer → Type 0
 NeverRan (Alone end) = ⊥
 NeverRan (RanBoth ran) = ⊥
 NeverRan WriteFault = ⊥
+NeverRan OutOfMemory = ⊥
 NeverRan Checked = Unit {0}
 NeverRan Help = Unit {0}
 NeverRan Version = Unit {0}
@@ -54,7 +55,6 @@ NeverRan Usage = Unit {0}
 NeverRan ReadFault = Unit {0}
 NeverRan TooLong = Unit {0}
 NeverRan (Refused cause) = Unit {0}
-NeverRan OutOfMemory = Unit {0}
 
 -- what is answered where a file is not read
 abbrev pub unread : FileFault → RunAnswer

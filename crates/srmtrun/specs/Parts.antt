@@ -1,5 +1,5 @@
 -- Words of the contracts of private parts of a run in one thread.
-use Rattle.std.specs.Prelude.{◌≡◌, ℕ, List, [], Option, None}
+use Rattle.std.specs.Prelude.{◌≡◌, ℕ, ◌≤◌, ◌⊎◌, List, [], Option, None}
 use Rattle.srmt_base.specs.declared.event.Event.{Event}
 use Rattle.srmt_base.specs.declared.limits.Limits.{Limits}
 use Rattle.srmt_base.specs.declared.trap.SourceEnd.{SourceEnd}
@@ -14,26 +14,28 @@ use Rattle.answers.specs.declared.answer.RunAnswer.{RunAnswer}
 use Rattle.answers.specs.declared.answer.CompileRefusal.TheVariants.{Form}
 use Rattle.answers.specs.declared.answer.RunAnswer.TheVariants.{Alone, Ran as RanBoth, Checked, Help, Version, Usage, ReadFault, TooLong, Refused, WriteFault, OutOfMemory}
 use Rattle.srmtrun.specs.declared.words.Mode.{Mode}
-use Rattle.srmtrun.specs.declared.words.Mode.TheVariants.{Single, Alternate, Check}
+use Rattle.srmtrun.specs.declared.words.Mode.TheVariants.{Alternate, Check}
 use Rattle.first_form.specs.declared.source.FirstForm.{FirstForm}
 use Rattle.first_form.specs.FirstForm.{IsFirstForm}
 use Rattle.srmtrun.specs.Words.{Command}
 use Rattle.srmtrun.specs.Reads.{Contents}
-use Rattle.srmtrun.specs.Still.{run_of, RunsToEnd, StopsWriting, RanOnSource, HasTyping, RefusedAs}
+use Rattle.c_typed.specs.Statements.{Program}
+use Rattle.c_front.specs.Front.{TypesFiles, RefusesFiles, IsRefusal}
+use Rattle.source_meaning.specs.Start.{means}
+use Rattle.srmtrun.specs.Still.{run_of, RanOnSource, HasTyping, RefusedAs, EndsAlone, FailsWriting, LacksMemory, AnswersMeaning}
 
 -- What an answer says of the command, of its files and of the events, for each answer but those that the words alone
 -- decide.
 abbrev pub Serves : Command → Contents → Option (List Event) → Option (List Event) → Type 0 → Type 0 → RunAnswer → Type 0
-Serves command contents before after read_failed write_failed (Alone end) = (command.mode ≡ Single) × RunsToEnd (contents command.program) before after end
+Serves command contents before after read_failed write_failed (Alone end) = EndsAlone command.mode contents command before after end
 Serves command contents before after read_failed write_failed (RanBoth ran) =
     (command.mode ≡ Alternate) × RanOnSource (contents command.program) before after write_failed ran
 Serves command contents before after read_failed write_failed Checked = (command.mode ≡ Check) × HasTyping contents command × (after ≡ before)
-Serves command contents before after read_failed write_failed WriteFault =
-    (command.mode ≡ Single) × write_failed × StopsWriting (contents command.program) before after
+Serves command contents before after read_failed write_failed WriteFault = write_failed × FailsWriting command.mode contents command before after
 Serves command contents before after read_failed write_failed ReadFault = read_failed × (after ≡ before)
 Serves command contents before after read_failed write_failed TooLong = after ≡ before
 Serves command contents before after read_failed write_failed (Refused cause) = RefusedAs command.mode contents command cause × (after ≡ before)
-Serves command contents before after read_failed write_failed OutOfMemory = after ≡ before
+Serves command contents before after read_failed write_failed OutOfMemory = LacksMemory command.mode contents command before after
 Serves command contents before after read_failed write_failed Usage = ⊥
 Serves command contents before after read_failed write_failed Help = ⊥
 Serves command contents before after read_failed write_failed Version = ⊥
@@ -41,7 +43,19 @@ Serves command contents before after read_failed write_failed Version = ⊥
 -- the same of a source that runs on one thread, or on both
 abbrev pub Runs : Mode → List ℕ → Contents → Option (List Event) → Option (List Event) → Type 0 → Type 0 → RunAnswer → Type 0
 Runs mode name contents before after read_failed write_failed answer =
-    Serves (record { mode = mode; program = name; binary = None; input = None }) contents before after read_failed write_failed answer
+    Serves (record { mode = mode; program = name; binary = None; input = None; turns = None }) contents before after read_failed write_failed answer
+
+-- the limits of a run by the meaning
+pub record AreLimits (limits : Limits) : Type 0 where
+  pub turns : limits.turns ≤ 1000000000000
+  pub depth : limits.depth ≡ 1000
+  pub cells : limits.cells ≡ 1048576
+
+-- what is answered to the bytes of sources that are run by their meaning: their first refusal, or what their program does
+abbrev pub AnswersSources : List ℕ → Option (List ℕ) → List ℕ → Limits → Option (List Event) → Option (List Event) → Type 0 → RunAnswer → Type 0
+AnswersSources main binary input limits before after write_failed answer =
+    (IsRefusal (RefusesFiles main binary) answer × (after ≡ before))
+    ⊎ ((program : Program) × TypesFiles main binary program × AnswersMeaning (means program input limits) before after ⊥ write_failed answer)
 
 -- why a source has no program
 abbrev pub StopsCompiling : List ℕ → RunAnswer → Type 0

@@ -75,6 +75,11 @@ IsReadIfGiven contents limit None (Some bytes) = ⊥
 IsReadIfGiven contents limit (Some name) None = ⊥
 IsReadIfGiven contents limit (Some name) (Some bytes) = IsRead contents (file_named limit name) bytes
 
+-- the same of an input; without one there are no bytes
+abbrev pub IsInput : Contents → Option (List ℕ) → List ℕ → Type 0
+IsInput contents None bytes = bytes ≡ []
+IsInput contents (Some name) bytes = IsRead contents (file_named 16777216 name) bytes
+
 -- these are the bytes of the sources of a command
 pub record AreRead (contents : Contents) (command : Command) (main : List ℕ) (binary : Option (List ℕ)) : Type 0 where
   pub of_main : IsRead contents (file_named 1048576 command.program) main
@@ -89,3 +94,8 @@ pub record AreTold (contents : Contents) (command : Command) (main : List ℕ) (
   pub of_binary : option_map contents command.binary ≡ option_map Some binary
   pub binary_within : IfSome binary (λ bytes. length bytes ≤ 1048576)
   pub of_input : IfSome command.input (λ name. IsSomeAnd (contents name) (λ bytes. length bytes ≤ 16777216))
+
+-- these are the told bytes of an input; without one there are none
+abbrev pub IsToldInput : Contents → Option (List ℕ) → List ℕ → Type 0
+IsToldInput contents None bytes = bytes ≡ []
+IsToldInput contents (Some name) bytes = contents name ≡ Some bytes

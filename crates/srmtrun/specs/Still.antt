@@ -1,5 +1,5 @@
 -- A call of one thread, from the words of the command to the events.
-use Rattle.std.specs.Prelude.{◌≡◌, ℕ, ◌≤◌, ◌⊎◌, List, [], ◌∷◌, length, Option, IfSome}
+use Rattle.std.specs.Prelude.{◌≡◌, ℕ, ◌≤◌, ◌⊎◌, List, [], ◌∷◌, length, Option, unwrap_or, IfSome}
 use Rattle.srmt_base.specs.declared.event.Event.{Event}
 use Rattle.srmt_base.specs.declared.trap.SourceEnd.{SourceEnd}
 use Rattle.srmt_base.specs.declared.limits.Limits.{Limits}
@@ -17,15 +17,16 @@ use Rattle.answers.specs.declared.answer.CompileRefusal.{CompileRefusal}
 use Rattle.answers.specs.declared.answer.CompileRefusal.TheVariants.{Form}
 use Rattle.c_typed.specs.Statements.{Program}
 use Rattle.c_front.specs.Front.{TypesFiles, RefusesFiles}
+use Rattle.source_meaning.specs.Start.{Behaviour, means}
 use Rattle.first_form.specs.declared.source.FirstForm.{FirstForm}
 use Rattle.srmtrun.specs.declared.still.TheConstants.{LIMITS}
 use Rattle.srmtrun.specs.declared.words.Mode.{Mode}
-use Rattle.srmtrun.specs.declared.words.Mode.TheVariants.{Single, Alternate, Check}
+use Rattle.srmtrun.specs.declared.words.Mode.TheVariants.{Single, Alternate, Reference, Check}
 use Rattle.first_form.specs.FirstForm.{IsFirstForm}
 use Rattle.first_form.specs.Lowered.{program_of}
 use Rattle.first_form.specs.Meaning.{events_of, end_of}
 use Rattle.srmtrun.specs.Words.{Command, Takes}
-use Rattle.srmtrun.specs.Reads.{Contents, Wanted, names_of, PassesLimit, ReadsAll, StopsAt, AreRead}
+use Rattle.srmtrun.specs.Reads.{Contents, Wanted, names_of, PassesLimit, ReadsAll, StopsAt, IsInput, AreRead}
 
 -- the words are taken, and this holds of the command
 pub record Names (words : List (List ℕ)) (P : Command → Type 0) : Type 0 where
@@ -86,6 +87,49 @@ AnswersForm mode form before after read_failed write_failed Version = ⊥
 AnswersForm mode form before after read_failed write_failed TooLong = ⊥
 AnswersForm mode form before after read_failed write_failed (Refused cause) = ⊥
 
+-- ---- a program that is run by its meaning
+
+-- the limits of a run, with so many turns where they are given
+abbrev pub limits_with : Option ℕ → Limits
+limits_with turns = record { turns = unwrap_or turns 100000000; depth = 1000; cells = 1048576 }
+
+abbrev pub limits_of : Command → Limits
+limits_of command = limits_with command.turns
+
+-- the files of a command, with these bytes where they are told, have a typed program, and this is what it means
+pub record IsMeaning (contents : Contents) (command : Command) (meaning : Behaviour) : Type 0 where
+  pub main : List ℕ
+  pub binary : Option (List ℕ)
+  pub input : List ℕ
+  pub program : Program
+  pub sources_read : AreRead contents command main binary
+  pub input_read : IsInput contents command.input input
+  pub typed : TypesFiles main binary program
+  pub same : meaning ≡ means program input (limits_of command)
+
+-- these are all events of such a program, and its end
+abbrev pub MeansToEnd : Contents → Command → Option (List Event) → Option (List Event) → SourceEnd → Type 0
+MeansToEnd contents command before after end =
+    (meaning : Behaviour) × IsMeaning contents command meaning × (end ≡ meaning.end) × Appends before after meaning.events
+
+-- these are its first events
+abbrev pub StopsMeaning : Contents → Command → Option (List Event) → Option (List Event) → Type 0
+StopsMeaning contents command before after = (meaning : Behaviour) × IsMeaning contents command meaning × AppendsPrefix before after meaning.events
+
+-- What an answer says of a program that is told and means this. Each but Alone names its cause.
+abbrev pub AnswersMeaning : Behaviour → Option (List Event) → Option (List Event) → Type 0 → Type 0 → RunAnswer → Type 0
+AnswersMeaning meaning before after read_failed write_failed (Alone end) = (end ≡ meaning.end) × Appends before after meaning.events
+AnswersMeaning meaning before after read_failed write_failed WriteFault = write_failed × AppendsPrefix before after meaning.events
+AnswersMeaning meaning before after read_failed write_failed OutOfMemory = AppendsPrefix before after meaning.events
+AnswersMeaning meaning before after read_failed write_failed ReadFault = read_failed × (after ≡ before)
+AnswersMeaning meaning before after read_failed write_failed (RanBoth ran) = ⊥
+AnswersMeaning meaning before after read_failed write_failed Checked = ⊥
+AnswersMeaning meaning before after read_failed write_failed Usage = ⊥
+AnswersMeaning meaning before after read_failed write_failed Help = ⊥
+AnswersMeaning meaning before after read_failed write_failed Version = ⊥
+AnswersMeaning meaning before after read_failed write_failed TooLong = ⊥
+AnswersMeaning meaning before after read_failed write_failed (Refused cause) = ⊥
+
 -- ---- a program that is checked
 
 -- the sources of a command, with these bytes where they are told, have a typed program
@@ -97,15 +141,37 @@ HasTyping contents command =
 abbrev pub HasRefusal : Contents → Command → CompileRefusal → Type 0
 HasRefusal contents command cause = (main : List ℕ) × (binary : Option (List ℕ)) × AreRead contents command main binary × RefusesFiles main binary cause
 
--- what is answered to a program that is only checked: this, unless a file was not read or memory ran out
+-- what is answered to a program that is checked, or that is refused: this, unless a file was not read or memory ran out
 abbrev pub AnswersCheck : RunAnswer → Type 0 → RunAnswer → Type 0
 AnswersCheck expected read_failed answer = (answer ≡ expected) ⊎ ((answer ≡ ReadFault) × read_failed) ⊎ (answer ≡ OutOfMemory)
 
 -- ---- in every mode
 
+-- how a program has ended on one thread
+abbrev pub EndsAlone : Mode → Contents → Command → Option (List Event) → Option (List Event) → SourceEnd → Type 0
+EndsAlone Single contents command before after end = RunsToEnd (contents command.program) before after end
+EndsAlone Reference contents command before after end = MeansToEnd contents command before after end
+EndsAlone Alternate contents command before after end = ⊥
+EndsAlone Check contents command before after end = ⊥
+
+-- what was written on one thread until an event failed
+abbrev pub FailsWriting : Mode → Contents → Command → Option (List Event) → Option (List Event) → Type 0
+FailsWriting Single contents command before after = StopsWriting (contents command.program) before after
+FailsWriting Reference contents command before after = StopsMeaning contents command before after
+FailsWriting Alternate contents command before after = ⊥
+FailsWriting Check contents command before after = ⊥
+
+-- what was written until memory ran out: nothing, unless a program was run by its meaning
+abbrev pub LacksMemory : Mode → Contents → Command → Option (List Event) → Option (List Event) → Type 0
+LacksMemory Single contents command before after = after ≡ before
+LacksMemory Alternate contents command before after = after ≡ before
+LacksMemory Check contents command before after = after ≡ before
+LacksMemory Reference contents command before after = (after ≡ before) ⊎ StopsMeaning contents command before after
+
 -- what a refusal says of a command's files
 abbrev pub RefusedAs : Mode → Contents → Command → CompileRefusal → Type 0
 RefusedAs Check contents command cause = HasRefusal contents command cause
+RefusedAs Reference contents command cause = HasRefusal contents command cause
 RefusedAs Single contents command cause = (cause ≡ Form) × IsNoSource (contents command.program)
 RefusedAs Alternate contents command cause = (cause ≡ Form) × IsNoSource (contents command.program)
 

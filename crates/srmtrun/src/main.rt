@@ -9,6 +9,8 @@
 //! `answers`, and on the traits of `srmt_outside`.
 #![tactic(auto)]
 
+mod reference;
+mod sources;
 mod still;
 #[cfg(test)]
 mod tests;

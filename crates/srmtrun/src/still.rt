@@ -1,8 +1,7 @@
-ghost use Rattle.std.specs.Prelude.{◌≡◌, ◌≢◌, ℕ, ◌+◌, ◌^◌, ◌<◌, ◌≤◌, ◌↔◌, List, [], ◌∷◌, Some, true, false, length, Option, option_map, option_copied, IfOk, IfErr, IfSome, IsErrOf, OnOk, OnErr};
+ghost use Rattle.std.specs.Prelude.{◌≡◌, ◌≢◌, ℕ, ◌+◌, ◌^◌, ◌<◌, ◌≤◌, ◌↔◌, List, [], ◌∷◌, Some, true, false, length, Option, option_map, option_copied, IfOk, IfErr, IfSome, OnOk, OnErr};
 ghost use Rattle.srmt_base.specs.declared.event.Event.{Event};
 ghost use Rattle.srmt_base.specs.declared.trap.SourceEnd.{SourceEnd};
 ghost use Rattle.srmt_outside.specs.Count.{Rose};
-ghost use Rattle.srmt_outside.specs.Files.{Asks as AsksFile};
 ghost use Rattle.srmt_outside.specs.Told.{Appends, AppendsPrefix};
 ghost use Rattle.mid_code.specs.Valid.{IsValid};
 ghost use Rattle.mid_code.specs.Meaning.{Middle};
@@ -13,6 +12,7 @@ ghost use Rattle.pair_core.specs.Faults.{faults_told};
 ghost use Rattle.answers.specs.declared.answer.CompileRefusal.{CompileRefusal as CompileRefusal'};
 ghost use Rattle.c_typed.specs.Statements.{Program};
 ghost use Rattle.c_front.specs.Front.{TypesFiles, RefusesFiles, IsRefusal};
+ghost use Rattle.source_meaning.specs.Start.{means};
 ghost use Rattle.answers.specs.Answer.{final_status, NeverRan};
 ghost use Rattle.answers.specs.Notes.{lines_of, written};
 ghost use Rattle.first_form.specs.declared.source.FirstForm.{FirstForm};
@@ -20,12 +20,14 @@ ghost use Rattle.first_form.specs.FirstForm.{IsFirstForm};
 ghost use Rattle.first_form.specs.Lowered.{Implements};
 ghost use Rattle.srmtrun.specs.declared.words.Mode.{Mode};
 ghost use Rattle.srmtrun.specs.Answer.{answer_from, both_from, check_from, IsOfWords, write_faults_after};
-ghost use Rattle.srmtrun.specs.Reads.{file_named, files_named, files_of, PassesLimit, StopsAt, Reads, IsRead, IsReadIfGiven, AreRead, AreTold};
-ghost use Rattle.srmtrun.specs.Still.{Names, HasTyping, RefusedAs, AnswersCheck, RunsToEnd, RanOnSource, StopsWriting, AsksFor, AnswersForm};
+ghost use Rattle.srmtrun.specs.Reads.{file_named, files_of, PassesLimit, StopsAt, AreTold, IsToldInput};
+ghost use Rattle.srmtrun.specs.Still.{Names, HasTyping, RefusedAs, AnswersCheck, EndsAlone, FailsWriting, LacksMemory, RanOnSource, AsksFor, AnswersForm, AnswersMeaning, limits_of};
 ghost use Rattle.srmtrun.specs.Parts.{Serves, Runs, StopsCompiling, StopsRun, RanBySides};
-ghost use Rattle.srmtrun.specs.Words.{texts, Command as Command', MayHaveFiles, Takes, Asks, IsUsage};
+ghost use Rattle.srmtrun.specs.Words.{texts, Command as Command', takes_form, IsTurns, MayHaveOptions, Takes, Asks, IsUsage};
 ghost use Rattle.srmtrun.specs.Reading.{command_of};
 
+use crate::reference::reference;
+use crate::sources::{SOURCE_LIMIT, load, load_sources};
 use crate::words::{Command, Mode, Question, read_command, read_question};
 use answers::{CompileRefusal, Finished, RunAnswer, finish};
 use c_front::check_files;
@@ -34,16 +36,10 @@ use mid_code::MidProgram;
 use mid_run::MidRun;
 use pair_core::{Duo, Ran, alternate};
 use srmt_base::{Limits, SourceEnd};
-use srmt_outside::{FileFault, Files, Outlet, Sink};
+use srmt_outside::{Files, Outlet, Sink};
 use std::alloc::{AllocError, Global};
 
-/// The largest source, in bytes.
-const SOURCE_LIMIT: u64 = 1_048_576;
-
-/// The largest input, in bytes.
-const INPUT_LIMIT: u64 = 16_777_216;
-
-/// The budgets of a run.
+/// The budgets of a run of the first form.
 const LIMITS: Limits = Limits {
     turns: 100_000_000,
     depth: 1_000,
@@ -62,7 +58,7 @@ pub fn srmtrun_still<F: Files, O: Outlet + Send, N: Sink>(
     // on one thread or by both sides in turn. Each other answer has its cause.
     ensures told { (command : Command') (bytes : List ℕ) (form : FirstForm)
         → Takes (texts words.now) command
-        → command.mode ≢ Mode.Check
+        → takes_form command.mode ≡ true
         → F.contents files.old command.program ≡ Some bytes
         → length bytes ≤ 1048576
         → IsFirstForm bytes form
@@ -70,14 +66,25 @@ pub fn srmtrun_still<F: Files, O: Outlet + Send, N: Sink>(
         (Rose (F.faults files.old) (F.faults files.new))
         (Rose (O.faults outlet.old) (O.faults outlet.new)) result.answer }
 
-    // A program that is only checked, whose files are told, is answered Checked where it has a typed program, and its
-    // first refusal where it has that.
+    // A program that is run by its meaning, whose files are told and which has a typed program, runs to its end, with
+    // all events that the program means. Each other answer has its cause.
+    ensures meant { (command : Command') (main input : List ℕ) (binary : Option (List ℕ)) (program : Program)
+        → Takes (texts words.now) command → command.mode ≡ Mode.Reference
+        → AreTold (F.contents files.old) command main binary → IsToldInput (F.contents files.old) command.input input
+        → TypesFiles main binary program
+        → AnswersMeaning (means program input (limits_of command))
+        (O.events outlet.old) (O.events outlet.new)
+        (Rose (F.faults files.old) (F.faults files.new))
+        (Rose (O.faults outlet.old) (O.faults outlet.new)) result.answer }
+
+    // A program that is only checked, whose files are told, is answered Checked where it has a typed program. One that
+    // is checked or run by its meaning is answered its first refusal where it has that.
     ensures typed { (command : Command') (main : List ℕ) (binary : Option (List ℕ)) (program : Program)
         → Takes (texts words.now) command → command.mode ≡ Mode.Check
         → AreTold (F.contents files.old) command main binary → TypesFiles main binary program
         → AnswersCheck RunAnswer.Checked (Rose (F.faults files.old) (F.faults files.new)) result.answer }
     ensures untyped { (command : Command') (main : List ℕ) (binary : Option (List ℕ)) (cause : CompileRefusal')
-        → Takes (texts words.now) command → command.mode ≡ Mode.Check
+        → Takes (texts words.now) command → takes_form command.mode ≡ false
         → AreTold (F.contents files.old) command main binary → RefusesFiles main binary cause
         → AnswersCheck (RunAnswer.Refused cause) (Rose (F.faults files.old) (F.faults files.new)) result.answer }
 
@@ -86,8 +93,7 @@ pub fn srmtrun_still<F: Files, O: Outlet + Send, N: Sink>(
     ensures help { (result.answer ≡ RunAnswer.Help) ↔ Asks (texts words.now) Question.Help }
     ensures version { (result.answer ≡ RunAnswer.Version) ↔ Asks (texts words.now) Question.Version }
     ensures alone { (end : SourceEnd) → result.answer ≡ RunAnswer.Alone end
-        → Names (texts words.now) (λ command. (command.mode ≡ Mode.Single)
-        × RunsToEnd (F.contents files.old command.program)
+        → Names (texts words.now) (λ command. EndsAlone command.mode (F.contents files.old) command
         (O.events outlet.old) (O.events outlet.new) end) }
     ensures ran { (ran : Ran) → result.answer ≡ RunAnswer.Ran ran
         → Names (texts words.now) (λ command. (command.mode ≡ Mode.Alternate)
@@ -99,7 +105,10 @@ pub fn srmtrun_still<F: Files, O: Outlet + Send, N: Sink>(
     ensures refused { (cause : CompileRefusal') → result.answer ≡ RunAnswer.Refused cause → Names (texts words.now)
         (λ command. RefusedAs command.mode (F.contents files.old) command cause) }
     ensures write_fault { result.answer ≡ RunAnswer.WriteFault → Names (texts words.now)
-        (λ command. (command.mode ≡ Mode.Single) × StopsWriting (F.contents files.old command.program)
+        (λ command. FailsWriting command.mode (F.contents files.old) command
+        (O.events outlet.old) (O.events outlet.new)) }
+    ensures out_of_memory { result.answer ≡ RunAnswer.OutOfMemory → Names (texts words.now)
+        (λ command. LacksMemory command.mode (F.contents files.old) command
         (O.events outlet.old) (O.events outlet.new)) }
     ensures read_failed { result.answer ≡ RunAnswer.ReadFault
         → Rose (F.faults files.old) (F.faults files.new) }
@@ -174,7 +183,8 @@ fn serve<F: Files, O: Outlet>(
     files: &mut F,
     outlet: &mut O,
 ) -> RunAnswer
-    requires { MayHaveFiles (command_of command) }
+    requires options { MayHaveOptions (command_of command) }
+    requires turns { IfSome command.turns IsTurns }
     ensures serves { Serves (command_of command.entry) (F.contents files.old)
         (O.events outlet.old) (O.events outlet.new)
         (Rose (F.faults files.old) (F.faults files.new))
@@ -188,6 +198,7 @@ fn serve<F: Files, O: Outlet>(
     match command.mode {
         Mode::Single => serve_single(alloc, command.program, files, outlet),
         Mode::Alternate => serve_both(alloc, command.program, files, outlet),
+        Mode::Reference => serve_reference(alloc, command, files, outlet),
         Mode::Check => serve_check(alloc, command, files),
     }
 }
@@ -234,6 +245,31 @@ fn serve_both<F: Files, O: Outlet>(
 {
     match both(alloc, name, files, outlet) {
         Ok(ran) => RunAnswer::Ran(ran),
+        Err(answer) => answer,
+    }
+}
+
+/// The answer to a program that is run by its meaning.
+fn serve_reference<F: Files, O: Outlet>(
+    alloc: Global,
+    command: Command<'_>,
+    files: &mut F,
+    outlet: &mut O,
+) -> RunAnswer
+    requires mode { command.mode ≡ Mode.Reference }
+    requires turns { IfSome command.turns IsTurns }
+    ensures serves { Serves (command_of command.entry) (F.contents files.old)
+        (O.events outlet.old) (O.events outlet.new)
+        (Rose (F.faults files.old) (F.faults files.new))
+        (Rose (O.faults outlet.old) (O.faults outlet.new)) result }
+    ensures asks { AsksFor (F.contents files.old) (F.asked files.old) (F.asked files.new)
+        (files_of (command_of command.entry)) result }
+    ensures contents { F.contents files.new ≡ F.contents files.old }
+    ensures read_faults { F.faults files.old ≤ F.faults files.new }
+    ensures write_faults { O.faults outlet.new ≡ write_faults_after result (O.faults outlet.old) }
+{
+    match reference(alloc, command, files, outlet) {
+        Ok(end) => RunAnswer::Alone(end),
         Err(answer) => answer,
     }
 }
@@ -312,8 +348,8 @@ fn checked<F: Files>(alloc: Global, command: Command<'_>, files: &mut F) -> Resu
     ensures read_faults { F.faults files.old ≤ F.faults files.new }
     ensures write_faults { (faults : ℕ) → write_faults_after (check_from result) faults ≡ faults }
 {
-    let (main, binary) = load_sources(alloc, command, files)?;
-    check_read(alloc, &main, &binary)
+    let sources = load_sources(alloc, command, files)?;
+    check_read(alloc, &sources.main, &sources.binary)
 }
 
 /// Whether the bytes that were read are a program, or the answer that tells why not.
@@ -340,93 +376,6 @@ fn check_sources(alloc: Global, main: &[u8], binary: Option<&[u8]>) -> Result<()
         Ok(_program) => Ok(()),
         Err(answer) => Err(answer),
     }
-}
-
-/// The bytes of the sources of a command. Its input is read behind them.
-fn load_sources<F: Files>(
-    alloc: Global,
-    command: Command<'_>,
-    files: &mut F,
-) -> Result<(Vec<u8>, Option<Vec<u8>>), FileFault>
-    ensures ok { IfOk result (λ sources. AreRead (F.contents files.old) (command_of command.entry)
-        sources.0.items (option_map (λ bytes. bytes.items) sources.1)) }
-    ensures asks { Reads (F.contents files.old) (F.asked files.old) (F.asked files.new)
-        (files_of (command_of command.entry)) result }
-    ensures failed { IsErrOf result FileFault.Failed
-        → Rose (F.faults files.old) (F.faults files.new) }
-    ensures never_falls { F.faults files.old ≤ F.faults files.new }
-    ensures contents { F.contents files.new ≡ F.contents files.old }
-{
-    let main = load(alloc, command.program, SOURCE_LIMIT, files)?;
-    let binary = load_if_given(alloc, command.binary, SOURCE_LIMIT, files)?;
-    let _input = load_if_given(alloc, command.input, INPUT_LIMIT, files)?;
-    Ok((main, binary))
-}
-
-/// The bytes of a file whose name is given.
-fn load_if_given<F: Files>(
-    alloc: Global,
-    name: Option<&str>,
-    limit: u64,
-    files: &mut F,
-) -> Result<Option<Vec<u8>>, FileFault>
-    ensures ok { IfOk result (λ found. IsReadIfGiven (F.contents files.old) limit
-        (option_copied name.entry) (option_map (λ bytes. bytes.items) found)) }
-    ensures asks { Reads (F.contents files.old) (F.asked files.old) (F.asked files.new)
-        (files_named limit (option_copied name.entry)) result }
-    ensures failed { IsErrOf result FileFault.Failed
-        → Rose (F.faults files.old) (F.faults files.new) }
-    ensures never_falls { F.faults files.old ≤ F.faults files.new }
-    ensures contents { F.contents files.new ≡ F.contents files.old }
-{
-    match name {
-        Some(name) => match load(alloc, name, limit, files) {
-            Ok(bytes) => Ok(Some(bytes)),
-            Err(fault) => Err(fault),
-        },
-        None => Ok(None),
-    }
-}
-
-/// The bytes of a file.
-fn load<F: Files>(
-    alloc: Global,
-    name: &str,
-    limit: u64,
-    files: &mut F,
-) -> Result<Vec<u8>, FileFault>
-    ensures ok { IfOk result (λ found. IsRead (F.contents files.old) (file_named limit name.now) found.items) }
-    ensures asks { Reads (F.contents files.old) (F.asked files.old) (F.asked files.new)
-        (file_named limit name.now ∷ []) result }
-    ensures failed { IsErrOf result FileFault.Failed
-        → Rose (F.faults files.old) (F.faults files.new) }
-    ensures never_falls { F.faults files.old ≤ F.faults files.new }
-    ensures contents { F.contents files.new ≡ F.contents files.old }
-{
-    read(alloc, name, limit, files)
-}
-
-/// The same, fact by fact.
-fn read<F: Files>(
-    alloc: Global,
-    name: &str,
-    limit: u64,
-    files: &mut F,
-) -> Result<Vec<u8>, FileFault>
-    ensures told { IfOk result
-        (λ found. IfSome (F.contents files.old name.now) (λ told. told ≡ found.items)) }
-    ensures within { IfOk result (λ found. length found.items ≤ limit) }
-    ensures too_long { IsErrOf result FileFault.TooLong
-        → IfSome (F.contents files.old name.now) (λ told. limit < length told) }
-    ensures failed { IsErrOf result FileFault.Failed
-        → Rose (F.faults files.old) (F.faults files.new) }
-    ensures never_falls { F.faults files.old ≤ F.faults files.new }
-    ensures contents { F.contents files.new ≡ F.contents files.old }
-    ensures asks { AsksFile result (F.asked files.old) (F.asked files.new) name.now }
-{
-    let mut found = Vec::new(alloc);
-    files.read(alloc, name, &mut found, limit)?;
-    Ok(found)
 }
 
 /// The middle code of a source, or the answer that stopped it.

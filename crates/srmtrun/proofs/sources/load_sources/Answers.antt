@@ -3,7 +3,7 @@ use Rattle.std.proofs.lemmas.Result.{err_from_is_err_and}
 use Rattle.srmtrun.specs.Reading.{command_of}
 use Rattle.srmtrun.specs.Reads.{file_named, files_named}
 use Rattle.srmtrun.proofs.Asking.{faults_first, faults_behind, faults_there, reads_there}
-use Rattle.srmtrun.proofs.still.load_sources.Goals as goal
+use Rattle.srmtrun.proofs.sources.load_sources.Goals as goal
 
 pub returns-in_err-main-clause-asks : goal.returns-in_err-main-clause-asks
 returns-in_err-main-clause-asks g c =
