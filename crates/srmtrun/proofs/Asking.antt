@@ -1,5 +1,5 @@
 -- How the reading of several files in turn comes out.
-use Rattle.std.proofs.Common.{◌≡◌, ◌⊎◌, inl, inr, ℕ, ◌≤◌, ◌<◌, List, [], ◌∷◌, ◌++◌, length, map, Option, Some, None, Result, Ok, Err, refl, sym, ap, subst, ◌∙◌, append_assoc, arith}
+use Rattle.std.proofs.Common.{◌≡◌, ◌⊎◌, inl, inr, ℕ, ◌≤◌, ◌<◌, List, [], ◌∷◌, ◌++◌, length, map, Option, Some, None, Result, Ok, Err, true, false, refl, sym, ap, subst, ◌∙◌, append_assoc, arith}
 use Rattle.std.specs.Prelude.{IfSome, IfOk, IsErrOf, option_map, IsSomeAnd}
 use Rattle.std.proofs.lemmas.List.{map-append}
 use Rattle.std.proofs.lemmas.Option.{IfSome_then}
@@ -9,10 +9,9 @@ use Rattle.srmt_outside.specs.Files.{Asks as AsksFile}
 use Rattle.srmt_outside.specs.Told.{Appends, AppendsPrefix}
 use Rattle.srmt_outside.proofs.Told.{Appends-nothing, Appends-both, AppendsPrefix-first, AppendsPrefix-both}
 use Rattle.srmtrun.specs.declared.words.Mode.{Mode}
-use Rattle.srmtrun.specs.declared.words.Mode.TheVariants.{Single, Alternate, Check}
-use Rattle.srmtrun.specs.Words.{Command, MayHaveFiles}
+use Rattle.srmtrun.specs.Words.{Command, takes_form, MayHaveOptions}
 use Rattle.srmtrun.proofs.Spelling.{same_command}
-use Rattle.srmtrun.specs.Reads.{Wanted, file_named, files_named, files_of, names_of, Contents, IsWithin, PassesLimit, AreWithin, ReadsAll, StopsAt, Reads, IsRead, IsReadIfGiven, AreRead, AreTold}
+use Rattle.srmtrun.specs.Reads.{Wanted, file_named, files_named, files_of, names_of, Contents, IsWithin, PassesLimit, AreWithin, ReadsAll, StopsAt, Reads, IsRead, IsReadIfGiven, IsInput, AreRead, AreTold, IsToldInput}
 
 same_names : (fs gs : List Wanted) → names_of fs ++ names_of gs ≡ names_of (fs ++ gs)
 same_names fs gs = sym (map-append (λ (f : Wanted). f.name) fs gs)
@@ -94,6 +93,10 @@ one_content : (o : Option (List ℕ)) (a b : List ℕ) → o ≡ Some a → IfSo
 one_content (Some t) a b e h = let same : t ≡ a = cc in sym h ∙ same
 one_content None a b e h = absurd cc
 
+pub one_input : (contents : Contents) (name : Option (List ℕ)) (bytes other : List ℕ) → IsToldInput contents name bytes → IsInput contents name other → other ≡ bytes
+one_input contents None bytes other e is = is ∙ sym e
+one_input contents (Some n) bytes other e is = one_content (contents n) bytes other e is.told
+
 some_same : {X : Type 0} (a b : X) → Some a ≡ Some b → a ≡ b
 some_same a b e = cc
 
@@ -159,20 +162,21 @@ module _ (contents : Contents) (command : Command) (main : List ℕ) (binary : O
 
 -- ---- a source that is run
 
--- a command that runs its program has no other file
-pub run_alone : (command : Command) (mode : Mode) → command.mode ≡ mode → (mode ≡ Check → ⊥) → MayHaveFiles command
-    → Path Command (record { mode = mode; program = command.program; binary = None; input = None }) command
-run_alone command mode how runs (inl check) = absurd (runs (sym how ∙ check))
-run_alone command mode how runs (inr none) = same_command mode command.mode command.program command.program None command.binary None command.input (sym how) refl (sym none.0) (sym none.1)
+-- a command that takes the first form has no option
+pub run_alone : (command : Command) (mode : Mode) → command.mode ≡ mode → takes_form mode ≡ true → MayHaveOptions command
+    → Path Command (record { mode = mode; program = command.program; binary = None; input = None; turns = None }) command
+run_alone command mode how form (inl every) = let no : true ≡ false = sym form ∙ ap takes_form (sym how) ∙ every in absurd cc
+run_alone command mode how form (inr none) =
+    same_command mode command.mode command.program command.program None command.binary None command.input None command.turns (sym how) refl (sym none.binary) (sym none.input) (sym none.turns)
 
-pub one_file_within : (contents : Contents) (command : Command) (bytes : List ℕ) → contents command.program ≡ Some bytes → length bytes ≤ 1048576 → (command.mode ≡ Check → ⊥) → MayHaveFiles command
+pub one_file_within : (contents : Contents) (command : Command) (bytes : List ℕ) → contents command.program ≡ Some bytes → length bytes ≤ 1048576 → takes_form command.mode ≡ true → MayHaveOptions command
     → (before after : Option (List (List ℕ))) → StopsAt contents before after (files_of command) (PassesLimit contents) → ⊥
-one_file_within contents command bytes e within runs (inl check) before after s = runs check
-one_file_within contents command bytes e within runs (inr none) before after s =
+one_file_within contents command bytes e within form (inl every) before after s = let no : true ≡ false = sym form ∙ every in absurd cc
+one_file_within contents command bytes e within form (inr none) before after s =
     none_too_long contents command bytes None (record {
       of_main = e;
       main_within = within;
-      of_binary = ap (option_map contents) none.0;
+      of_binary = ap (option_map contents) none.binary;
       binary_within = tt;
-      of_input = subst (λ (i : Option (List ℕ)). IfSome i (λ name. IsSomeAnd (contents name) (λ b. length b ≤ 16777216))) (sym none.1) tt;
+      of_input = subst (λ (i : Option (List ℕ)). IfSome i (λ name. IsSomeAnd (contents name) (λ b. length b ≤ 16777216))) (sym none.input) tt;
     }) before after s

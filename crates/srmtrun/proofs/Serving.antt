@@ -1,5 +1,5 @@
--- What a run on one thread answers, from what its parts say.
-use Rattle.std.proofs.Common.{◌≡◌, ◌⊎◌, inl, inr, ℕ, ◌+◌, ◌≤◌, List, [], ◌∷◌, ◌++◌, length, take, Option, Some, None, Result, Ok, Err, refl, sym, ap, subst, ◌∙◌, arith}
+-- What a source of the first form answers that is run, from what its parts say.
+use Rattle.std.proofs.Common.{◌≡◌, ◌⊎◌, inl, inr, ℕ, ◌+◌, ◌≤◌, true, List, [], ◌∷◌, ◌++◌, length, take, Option, Some, None, Result, Ok, Err, refl, sym, ap, subst, ◌∙◌, arith}
 use Rattle.std.specs.Prelude.{IfSome, IfOk, IfErr, OnOk, option_map}
 use Rattle.std.proofs.Math.Seq.{take-append_seam, take-length}
 use Rattle.std.proofs.lemmas.Option.{IfSome_then}
@@ -39,15 +39,15 @@ use Rattle.srmt_outside.specs.declared.file_fault.FileFault.{FileFault}
 use Rattle.srmt_outside.specs.declared.file_fault.FileFault.TheVariants.{Failed, TooLong as FileTooLong, Memory as NoMemory}
 use Rattle.srmt_outside.proofs.Told.{AppendsPrefix-whole}
 use Rattle.srmtrun.specs.Answer.{answer_from, check_from, write_faults_after}
-use Rattle.srmtrun.specs.Words.{Command}
+use Rattle.srmtrun.specs.Words.{Command, takes_form}
 use Rattle.srmtrun.specs.Reads.{Contents, Wanted, names_of, ReadsAll, Reads, AreRead}
 use Rattle.srmtrun.specs.declared.words.Mode.{Mode}
-use Rattle.srmtrun.specs.declared.words.Mode.TheVariants.{Single, Alternate, Check}
+use Rattle.srmtrun.specs.declared.words.Mode.TheVariants.{Single, Alternate, Reference, Check}
 use Rattle.first_form.specs.FirstForm.{IsFirstForm}
 use Rattle.first_form.specs.Lowered.{Implements}
 use Rattle.first_form.specs.Meaning.{events_of, end_of}
 use Rattle.srmtrun.specs.declared.still.TheConstants.{LIMITS}
-use Rattle.srmtrun.specs.Still.{AsksFor, run_of, RunsBoth, IsNoSource, RefusedAs}
+use Rattle.srmtrun.specs.Still.{AsksFor, run_of, RunsBoth, IsNoSource, RefusedAs, EndsAlone, FailsWriting, LacksMemory}
 use Rattle.srmtrun.specs.Parts.{Serves, Runs as RunsAs, StopsCompiling, StopsRun, RanBySides}
 
 -- a run that has not ended has written the first events of the whole run
@@ -73,17 +73,28 @@ prefix_written program limits start end before after is so_far fs over means =
     let runs = subst (λ (s : Progress). Runs program s es end) is so_far.1 in
     (length es, so_far.2 ∙ ap (λ xs. option_map (λ told. told ++ xs) before) (sym (run_front program (started program [] limits) end es fs over runs means)))
 
+-- where nothing was written, memory may have run out
+pub silent : (contents : Contents) (command : Command) (before after : Option (List Event)) (mode : Mode) → after ≡ before → LacksMemory mode contents command before after
+silent contents command before after Single same = same
+silent contents command before after Alternate same = same
+silent contents command before after Check same = same
+silent contents command before after Reference same = inl same
+
 module _ (contents : Contents) (name : List ℕ) (before after : Option (List Event)) (read_failed write_failed : Type 0) (mode : Mode) (bytes : List ℕ) (same : IfSome (contents name) (λ t. t ≡ bytes)) (within : length bytes ≤ 1048576) where
-  refused_as : (m : Mode) (cause : CompileRefusal) → (m ≡ Check → ⊥) → cause ≡ Form → IsNoSource (contents name) → RefusedAs m contents (record { mode = mode; program = name; binary = None; input = None }) cause
+  abbrev own : Command
+  own = record { mode = mode; program = name; binary = None; input = None; turns = None }
+
+  refused_as : (m : Mode) (cause : CompileRefusal) → takes_form m ≡ true → cause ≡ Form → IsNoSource (contents name) → RefusedAs m contents own cause
   refused_as Single cause runs is none = (is, none)
   refused_as Alternate cause runs is none = (is, none)
-  refused_as Check cause runs is none = absurd (runs refl)
+  refused_as Check cause runs is none = absurd cc
+  refused_as Reference cause runs is none = absurd cc
 
   -- a source that has no program is told so, where it is to run
-  pub compile_serves : (mode ≡ Check → ⊥) → (answer : RunAnswer) → StopsCompiling bytes answer → RunsAs mode name contents before before read_failed write_failed answer
+  pub compile_serves : takes_form mode ≡ true → (answer : RunAnswer) → StopsCompiling bytes answer → RunsAs mode name contents before before read_failed write_failed answer
   compile_serves runs (Refused cause) none =
       (refused_as mode cause runs none.0 (IfSome_then (contents name) same (λ t e. (subst (λ (b : List ℕ). length b ≤ 1048576) (sym e) within, λ form is. none.1 form (subst (λ (b : List ℕ). IsFirstForm b form) e is)))), refl)
-  compile_serves runs OutOfMemory none = refl
+  compile_serves runs OutOfMemory none = silent contents own before before mode refl
   compile_serves runs (Alone end) none = absurd none
   compile_serves runs (RanBoth ran) none = absurd none
   compile_serves runs Checked none = absurd none
@@ -97,9 +108,14 @@ module _ (contents : Contents) (name : List ℕ) (before after : Option (List Ev
   pub run_serves : mode ≡ Single → (limits : Limits) (program : MidProgram) (form : FirstForm) → IsFirstForm bytes form → Implements program form → (r : Result SourceEnd RunAnswer) → IfOk r (λ end. (events : List Event) × Middle program [] limits events end × Appends before after events) → IfErr r (StopsRun program limits before after write_failed) → RunsAs mode name contents before after read_failed write_failed (answer_from r)
   run_serves how limits program form is code (Ok end) ok err =
       let one = one_end program (started program [] limits) ok.0 (events_of form) end (end_of form) ok.1 (code.means [] limits) in
-      (how, (form, record { bytes = bytes; told_bytes = same; within = within; is_form = is }, one.1, ok.2 ∙ ap (λ es. option_map (λ told. told ++ es) before) one.0))
-  run_serves how limits program form is code (Err WriteFault) ok err = (how, err.0, (form, record { bytes = bytes; told_bytes = same; within = within; is_form = is }, err.1 (events_of form) (end_of form) (code.means [] limits)))
-  run_serves how limits program form is code (Err OutOfMemory) ok err = err
+      subst (λ (m : Mode). EndsAlone m contents own before after end) (sym how)
+      (form, record { bytes = bytes; told_bytes = same; within = within; is_form = is }, one.1, ok.2 ∙ ap (λ es. option_map (λ told. told ++ es) before) one.0)
+  run_serves how limits program form is code (Err WriteFault) ok err = (
+    err.0,
+    subst (λ (m : Mode). FailsWriting m contents own before after) (sym how)
+        (form, record { bytes = bytes; told_bytes = same; within = within; is_form = is }, err.1 (events_of form) (end_of form) (code.means [] limits)),
+  )
+  run_serves how limits program form is code (Err OutOfMemory) ok err = silent contents own before after mode err
   run_serves how limits program form is code (Err (Alone end)) ok err = absurd err
   run_serves how limits program form is code (Err (RanBoth ran)) ok err = absurd err
   run_serves how limits program form is code (Err Checked) ok err = absurd err
@@ -195,10 +211,13 @@ module _ (contents : Contents) (before after : Option (List (List ℕ))) (files 
   pub memory_asks : AsksFor contents before after files OutOfMemory
   memory_asks = all_asked
 
+  pub refusal_asks : (Refuses : CompileRefusal → Type 0) (answer : RunAnswer) → IsRefusal Refuses answer → AsksFor contents before after files answer
+  refusal_asks Refuses answer (inl memory) = subst (λ (a : RunAnswer). AsksFor contents before after files a) (sym memory) all_asked
+  refusal_asks Refuses answer (inr (cause, is, refuses)) = subst (λ (a : RunAnswer). AsksFor contents before after files a) (sym is) reads
+
   pub check_asks : {A : Type 0} (Refuses : CompileRefusal → Type 0) (r : Result A RunAnswer) → IfErr r (IsRefusal Refuses) → AsksFor contents before after files (check_from r)
   check_asks Refuses (Ok done) err = reads
-  check_asks Refuses (Err answer) (inl memory) = subst (λ (a : RunAnswer). AsksFor contents before after files a) (sym memory) all_asked
-  check_asks Refuses (Err answer) (inr (cause, is, refuses)) = subst (λ (a : RunAnswer). AsksFor contents before after files a) (sym is) reads
+  check_asks Refuses (Err answer) err = refusal_asks Refuses answer err
 
 -- a file that is not read
 module _ (contents : Contents) where
@@ -210,14 +229,14 @@ module _ (contents : Contents) where
   pub unread_serves : (fault : FileFault) (command : Command) (events : Option (List Event)) (read_failed write_failed : Type 0) → (fault ≡ Failed → read_failed) → Serves command contents events events read_failed write_failed (unread fault)
   unread_serves Failed command events read_failed write_failed failed = (failed refl, refl)
   unread_serves FileTooLong command events read_failed write_failed failed = refl
-  unread_serves NoMemory command events read_failed write_failed failed = refl
+  unread_serves NoMemory command events read_failed write_failed failed = silent contents command events events command.mode refl
 
   -- what is checked
   pub check_serves : {A : Type 0} (command : Command) (events : Option (List Event)) (read_failed write_failed : Type 0) (main : List ℕ) (binary : Option (List ℕ)) (r : Result A RunAnswer) → command.mode ≡ Check → AreRead contents command main binary
       → OnOk r ((program : Program) × TypesFiles main binary program) → IfErr r (IsRefusal (RefusesFiles main binary)) → Serves command contents events events read_failed write_failed (check_from r)
   check_serves command events read_failed write_failed main binary (Ok done) how read ok err = (how, (main, binary, read, ok), refl)
   check_serves command events read_failed write_failed main binary (Err answer) how read ok (inl memory) =
-      subst (λ (a : RunAnswer). Serves command contents events events read_failed write_failed a) (sym memory) refl
+      subst (λ (a : RunAnswer). Serves command contents events events read_failed write_failed a) (sym memory) (silent contents command events events command.mode refl)
   check_serves command events read_failed write_failed main binary (Err answer) how read ok (inr (cause, is, refuses)) =
       subst (λ (a : RunAnswer). Serves command contents events events read_failed write_failed a) (sym is)
       (subst (λ (m : Mode). RefusedAs m contents command cause) (sym how) (main, binary, read, refuses), refl)

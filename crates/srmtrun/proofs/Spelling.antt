@@ -1,6 +1,6 @@
 -- Words are the parts of at most one command.
 use Rattle.std.proofs.Common.{◌≡◌, ◌⊎◌, inl, inr, ℕ, Bool, true, false, not, List, [], ◌∷◌, ◌++◌, map, codes, Option, Some, None, Result, Ok, Err, refl, sym, ap, subst, ◌∙◌, append_assoc, append-nil}
-use Rattle.std.specs.Prelude.{◌<◌, suc, ◌≤◌, drop, get_or, decimal, ◌&&◌, ◌==◌, IfNone, if◌then◌else◌, length, IsTrue, nat_le, ◌^◌, option_to_list, is_none, nat_eq, String, string_bytes}
+use Rattle.std.specs.Prelude.{◌<◌, suc, ◌≤◌, drop, get_or, decimal, ◌&&◌, ◌==◌, IfNone, IfSome, if◌then◌else◌, length, IsTrue, nat_le, ◌^◌, option_to_list, is_none, nat_eq, String, string_bytes}
 use Rattle.std.specs.declared.alloc.Global.{Global}
 use Rattle.std.specs.List.{flat_map}
 use Rattle.std.specs.Cmp.Lexicographic.{pointwise}
@@ -386,6 +386,24 @@ no_mode_version Check e = cc
 pub is_no_question : (words : List (List ℕ)) (command : Command) → Takes words command → (question : Question) → Asks words question → ⊥
 is_no_question words command t Help e = not_alone words command t (codes "--help") refl no_mode_help e t.parts t.spelled t.named t.mode
 is_no_question words command t Version e = not_alone words command t (codes "--version") refl no_mode_version e t.parts t.spelled t.named t.mode
+
+-- ---- turns
+
+turns_of_parts : (ps : List Part) (n : ℕ) (rest : List ℕ) → flat_map turns_in ps ≡ n ∷ rest → AreNamed ps → IsTurns n
+turns_of_parts [] n rest e h = absurd cc
+turns_of_parts (moded m ∷ ps) n rest e h = turns_of_parts ps n rest e h.1
+turns_of_parts (main_file m ∷ ps) n rest e h = turns_of_parts ps n rest e h.1
+turns_of_parts (binary_file m ∷ ps) n rest e h = turns_of_parts ps n rest e h.1
+turns_of_parts (input_file m ∷ ps) n rest e h = turns_of_parts ps n rest e h.1
+turns_of_parts (turn_limit t ∷ ps) n rest e h = let same : t ≡ n = cc in subst IsTurns same h.0
+
+-- those of a command are in range
+pub turns_within : (words : List (List ℕ)) (c : Command) → Takes words c → IfSome c.turns IsTurns
+turns_within words c t = by c.turns t.turns
+  where
+    by : (o : Option ℕ) → flat_map turns_in t.parts ≡ option_to_list o → IfSome o IsTurns
+    by None e = tt
+    by (Some n) e = turns_of_parts t.parts n [] e t.named
 
 -- ---- numbers
 

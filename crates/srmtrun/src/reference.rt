@@ -24,8 +24,33 @@ use srmt_base::{Limits, SourceEnd};
 use srmt_outside::{Files, Outlet};
 use std::alloc::Global;
 
+/// The answer to a program that is run by its meaning.
+pub(crate) fn serve_reference<F: Files, O: Outlet>(
+    alloc: Global,
+    command: Command<'_>,
+    files: &mut F,
+    outlet: &mut O,
+) -> RunAnswer
+    requires mode { command.mode ≡ Mode.Reference }
+    requires turns { IfSome command.turns IsTurns }
+    ensures serves { Serves (command_of command.entry) (F.contents files.old)
+        (O.events outlet.old) (O.events outlet.new)
+        (Rose (F.faults files.old) (F.faults files.new))
+        (Rose (O.faults outlet.old) (O.faults outlet.new)) result }
+    ensures asks { AsksFor (F.contents files.old) (F.asked files.old) (F.asked files.new)
+        (files_of (command_of command.entry)) result }
+    ensures contents { F.contents files.new ≡ F.contents files.old }
+    ensures read_faults { F.faults files.old ≤ F.faults files.new }
+    ensures write_faults { O.faults outlet.new ≡ write_faults_after result (O.faults outlet.old) }
+{
+    match reference(alloc, command, files, outlet) {
+        Ok(end) => RunAnswer::Alone(end),
+        Err(answer) => answer,
+    }
+}
+
 /// Runs a program by its meaning, to its end or to the answer that stopped it.
-pub(crate) fn reference<F: Files, O: Outlet>(
+fn reference<F: Files, O: Outlet>(
     alloc: Global,
     command: Command<'_>,
     files: &mut F,

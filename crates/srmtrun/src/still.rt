@@ -26,7 +26,7 @@ ghost use Rattle.srmtrun.specs.Parts.{Serves, Runs, StopsCompiling, StopsRun, Ra
 ghost use Rattle.srmtrun.specs.Words.{texts, Command as Command', takes_form, IsTurns, MayHaveOptions, Takes, Asks, IsUsage};
 ghost use Rattle.srmtrun.specs.Reading.{command_of};
 
-use crate::reference::reference;
+use crate::reference::serve_reference;
 use crate::sources::{SOURCE_LIMIT, load, load_sources};
 use crate::words::{Command, Mode, Question, read_command, read_question};
 use answers::{CompileRefusal, Finished, RunAnswer, finish};
@@ -245,31 +245,6 @@ fn serve_both<F: Files, O: Outlet>(
 {
     match both(alloc, name, files, outlet) {
         Ok(ran) => RunAnswer::Ran(ran),
-        Err(answer) => answer,
-    }
-}
-
-/// The answer to a program that is run by its meaning.
-fn serve_reference<F: Files, O: Outlet>(
-    alloc: Global,
-    command: Command<'_>,
-    files: &mut F,
-    outlet: &mut O,
-) -> RunAnswer
-    requires mode { command.mode ≡ Mode.Reference }
-    requires turns { IfSome command.turns IsTurns }
-    ensures serves { Serves (command_of command.entry) (F.contents files.old)
-        (O.events outlet.old) (O.events outlet.new)
-        (Rose (F.faults files.old) (F.faults files.new))
-        (Rose (O.faults outlet.old) (O.faults outlet.new)) result }
-    ensures asks { AsksFor (F.contents files.old) (F.asked files.old) (F.asked files.new)
-        (files_of (command_of command.entry)) result }
-    ensures contents { F.contents files.new ≡ F.contents files.old }
-    ensures read_faults { F.faults files.old ≤ F.faults files.new }
-    ensures write_faults { O.faults outlet.new ≡ write_faults_after result (O.faults outlet.old) }
-{
-    match reference(alloc, command, files, outlet) {
-        Ok(end) => RunAnswer::Alone(end),
         Err(answer) => answer,
     }
 }

@@ -10,6 +10,7 @@ use std::test::Fail;
 
 mod calls;
 mod checks;
+mod reference;
 mod schedules;
 
 // A call over a file `a.c`, and what is to come of it.

@@ -212,17 +212,36 @@ fn types_are_checked(rt: HostRuntime) -> Result<(), Fail> {
 fn words_are_taken_in_any_order(rt: HostRuntime) -> Result<(), Fail> {
     let refused = lexed(Which::Binary, LexRefusal::BadByte(0));
     let line = "srmtrun: refused: lex binary BadByte at 0\n";
-    let orders: [&'static [&'static str]; 4] = [
+    let orders: [&'static [&'static str]; 7] = [
         &["--binary", "b.c", "--input", "in", "--check", "a.c"],
         &["--check", "--input", "in", "--binary", "b.c", "a.c"],
         &["a.c", "--input", "in", "--check", "--binary", "b.c"],
         &["--input", "in", "a.c", "--binary", "b.c", "--check"],
+        &["--turns", "1", "a.c", "--binary", "b.c", "--check"],
+        &[
+            "a.c",
+            "--reference",
+            "--binary",
+            "b.c",
+            "--turns",
+            "1000000000000",
+        ],
+        &[
+            "--binary",
+            "b.c",
+            "--turns",
+            "20",
+            "--input",
+            "in",
+            "--reference",
+            "a.c",
+        ],
     ];
     for words in orders {
         let row = (words, EMPTY, b"@".as_slice(), refused, line);
         assert!(rt; answers(rt.alloc(), &row)?, "{words:?}");
     }
-    let usages: [&'static [&'static str]; 13] = [
+    let usages: [&'static [&'static str]; 24] = [
         &["--check"],
         &["a.c", "--binary", "b.c"],
         &["a.c", "--check", "--binary"],
@@ -235,6 +254,17 @@ fn words_are_taken_in_any_order(rt: HostRuntime) -> Result<(), Fail> {
         &["a.c", "--check", "--binary", "b.c", "--binary", "b.c"],
         &["a.c", "--single", "--input", "in"],
         &["a.c", "--alternate", "--binary", "b.c"],
+        &["a.c", "--single", "--turns", "5"],
+        &["a.c", "--reference", "--check"],
+        &["a.c", "--reference", "--turns"],
+        &["a.c", "--reference", "--turns", "5", "--turns", "5"],
+        &["a.c", "--reference", "--turns", "0"],
+        &["a.c", "--reference", "--turns", "05"],
+        &["a.c", "--reference", "--turns", "+5"],
+        &["a.c", "--reference", "--turns", "-5"],
+        &["a.c", "--reference", "--turns", ""],
+        &["a.c", "--reference", "--turns", "5 "],
+        &["a.c", "--reference", "--turns", "1000000000001"],
         &["--help", "--check", "a.c"],
     ];
     for words in usages {

@@ -20,12 +20,12 @@ returns-in_err-binary-clause-asks g c =
     rw (p.1, p.2) (faults_behind contents (Unit {0}) (Unit {0}) _ _ (g.F.Files.asked c.load.new.files) _ (file_named 1048576 k.program ∷ []) (files_named 1048576 k.binary ++ files_named 16777216 k.input) c.in_ok-main.ensures.asks
     (faults_first contents (Unit {0}) (Unit {0}) _ _ _ (files_named 1048576 k.binary) (files_named 16777216 k.input) here))
 
-pub returns-in_err-_input-clause-asks : goal.returns-in_err-_input-clause-asks
-returns-in_err-_input-clause-asks g c =
-    let p = err_from_is_err_and c.from_residual-in_err-_input.result c.from_residual-in_err-_input.ensures.1 in
+pub returns-in_err-input-clause-asks : goal.returns-in_err-input-clause-asks
+returns-in_err-input-clause-asks g c =
+    let p = err_from_is_err_and c.from_residual-in_err-input.result c.from_residual-in_err-input.ensures.1 in
     let k = command_of c.args.command in
     let contents = g.F.Files.contents c.args.files.now in
-    let here = faults_there contents (Unit {0}) _ (g.F.Files.contents c.load_if_given.new.files) (c.load_if_given.ensures.contents ∙ c.load.ensures.contents) _ _ (files_named 16777216 k.input) c.in_err-_input.ensures.asks in
+    let here = faults_there contents (Unit {0}) _ (g.F.Files.contents c.load_binary.new.files) (c.load_binary.ensures.contents ∙ c.load.ensures.contents) _ _ (files_named 16777216 k.input) c.in_err-input.ensures.asks in
     let read = reads_there contents (g.F.Files.contents c.load.new.files) c.load.ensures.contents _ _ (files_named 1048576 k.binary) c.in_ok-binary.ensures.asks in
     rw (p.1, p.2) (faults_behind contents (Unit {0}) (Unit {0}) _ _ (g.F.Files.asked c.load.new.files) _ (file_named 1048576 k.program ∷ []) (files_named 1048576 k.binary ++ files_named 16777216 k.input) c.in_ok-main.ensures.asks
-    (faults_behind contents (Unit {0}) (Unit {0}) _ _ (g.F.Files.asked c.load_if_given.new.files) _ (files_named 1048576 k.binary) (files_named 16777216 k.input) read here))
+    (faults_behind contents (Unit {0}) (Unit {0}) _ _ (g.F.Files.asked c.load_binary.new.files) _ (files_named 1048576 k.binary) (files_named 16777216 k.input) read here))

@@ -2,6 +2,7 @@ use Rattle.srmtrun.specs.declared.words.Question.TheVariants.{Help, Version}
 use Rattle.srmt_outside.specs.Count.{Rose}
 use Rattle.srmtrun.specs.Reading.{command_of}
 use Rattle.srmtrun.proofs.Serving.{serves_no_help, serves_no_version}
+use Rattle.srmtrun.proofs.Spelling.{turns_within}
 use Rattle.srmtrun.proofs.still.answer.Goals as goal
 
 pub returns-in-None-read_command-clause-help : goal.returns-in-None-read_command-clause-help
@@ -23,3 +24,6 @@ returns-in-Some-clause-version g c = (
       (Rose (g.F.Files.faults c.args.files.now) (g.F.Files.faults c.serve.new.files)) (Rose (g.O.Outlet.faults c.args.outlet.now) (g.O.Outlet.faults c.serve.new.outlet)) c.serve.result c.serve.ensures.serves e),
   λ asked. absurd (c.in-None.ensures.none Version asked),
 )
+
+pub serve-requires-clause-turns : goal.serve-requires-clause-turns
+serve-requires-clause-turns g c = turns_within _ (command_of c.in-Some.command) c.in-Some.ensures.some

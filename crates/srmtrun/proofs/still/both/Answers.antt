@@ -1,4 +1,4 @@
-use Rattle.std.proofs.Common.{ℕ, List, subst}
+use Rattle.std.proofs.Common.{ℕ, List, refl, subst}
 use Rattle.std.proofs.lemmas.Result.{err_from_is_err_and}
 use Rattle.srmtrun.proofs.Serving.{compile_serves, compile_asks, memory_asks, sides_serve}
 use Rattle.first_form.specs.FirstForm.{IsFirstForm}
@@ -10,7 +10,7 @@ pub returns-in_err-program-clause-serves : goal.returns-in_err-program-clause-se
 returns-in_err-program-clause-serves g c =
     let p = err_from_is_err_and c.from_residual-in_err-program.result c.from_residual-in_err-program.ensures.1 in
     let stops = subst (λ (b : List ℕ). StopsCompiling b c.in_err-program.field-0.0) c.deref.ensures.value c.in_err-program.ensures.err in
-    rw (p.1, p.2) (compile_serves (g.F.Files.contents c.args.files.now) c.args.name.now (g.O.Outlet.events c.args.outlet.now) (g.O.Outlet.events c.args.outlet.now) _ _ Alternate c.in_ok-source.source.items c.in_ok-source.ensures.ok.told c.in_ok-source.ensures.ok.within (λ e. absurd cc) c.in_err-program.field-0.0 stops)
+    rw (p.1, p.2) (compile_serves (g.F.Files.contents c.args.files.now) c.args.name.now (g.O.Outlet.events c.args.outlet.now) (g.O.Outlet.events c.args.outlet.now) _ _ Alternate c.in_ok-source.source.items c.in_ok-source.ensures.ok.told c.in_ok-source.ensures.ok.within refl c.in_err-program.field-0.0 stops)
 
 pub returns-in_err-program-clause-asks : goal.returns-in_err-program-clause-asks
 returns-in_err-program-clause-asks g c =
