@@ -1,11 +1,12 @@
 //! The runner: it takes the source of a program and runs it, or checks it.
 //!
-//! Today it runs sources of the first form alone, in which `main` writes constant bytes and returns
-//! a constant, by the machine of one thread or by both sides of its pair in turn. It checks the
-//! sources of the whole subset, with or without a binary file. The top call promises, of any files
-//! and any outlet, that a source that runs gives exactly its events and its end, and one that is
-//! checked its typing or its first refusal; or an answer with its cause, its status and its lines.
-//! It stands on `mid_run` and `pair_core`, on the sources of `first_form`, on `c_front`, on
+//! It runs every program of the subset, of one file or two, by its meaning. Today it compiles
+//! sources of the first form alone, in which `main` writes constant bytes and returns a constant,
+//! and runs them by the machine of one thread or by both sides of their pair in turn. It checks the
+//! sources of the whole subset. The top call promises, of any files and any outlet, that a program
+//! that runs gives exactly its events and its end, and one that is checked its typing or its first
+//! refusal; or an answer with its cause, its status and its lines. It stands on `mid_run` and
+//! `pair_core`, on the sources of `first_form`, on `c_front` and the evaluator of `c_meaning`, on
 //! `answers`, and on the traits of `srmt_outside`.
 #![tactic(auto)]
 

@@ -3,6 +3,8 @@ ghost use Rattle.srmt_outside.specs.Count.{Rose};
 ghost use Rattle.c_typed.specs.StatementViews.{program_view};
 ghost use Rattle.source_meaning.specs.Sound.{CanRun};
 ghost use Rattle.source_meaning.specs.Start.{means};
+ghost use Rattle.typing_laws.specs.LanguagePrograms.{IfThere};
+ghost use Rattle.parsed_laws.specs.Parsed.{AreBytes};
 ghost use Rattle.c_meaning.specs.Limits.{FitLimits};
 ghost use Rattle.srmtrun.specs.declared.words.Mode.{Mode};
 ghost use Rattle.srmtrun.specs.Answer.{answer_from, write_faults_after};
@@ -104,7 +106,7 @@ fn run_sources<O: Outlet>(
         input,
     } = sources;
     match binary {
-        Some(binary) => run_bytes(alloc, &main, Some(&binary), input, limits, outlet),
+        Some(binary) => run_bytes(alloc, &main, Some(binary.as_slice()), input, limits, outlet),
         None => run_bytes(alloc, &main, None, input, limits, outlet),
     }
 }
@@ -120,6 +122,7 @@ fn run_bytes<O: Outlet>(
 ) -> Result<SourceEnd, RunAnswer>
     requires main { length main.now ≤ 1048576 }
     requires binary { IfSome (option_copied binary) (λ src. length src ≤ 1048576) }
+    requires bytes { IfThere AreBytes (option_copied binary) }
     requires limits { AreLimits limits }
     ensures answers { AnswersSources main.now (option_copied binary.entry) input.items limits
         (O.events outlet.old) (O.events outlet.new)
