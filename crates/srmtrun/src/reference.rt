@@ -1,4 +1,4 @@
-ghost use Rattle.std.specs.Prelude.{◌≡◌, ◌≤◌, length, IfSome, option_map, option_copied};
+ghost use Rattle.std.specs.Prelude.{◌≡◌, ◌≤◌, length, Some, IfSome, option_map, option_copied};
 ghost use Rattle.srmt_outside.specs.Count.{Rose};
 ghost use Rattle.c_typed.specs.StatementViews.{program_view};
 ghost use Rattle.source_meaning.specs.Sound.{CanRun};
@@ -106,9 +106,29 @@ fn run_sources<O: Outlet>(
         input,
     } = sources;
     match binary {
-        Some(binary) => run_bytes(alloc, &main, Some(binary.as_slice()), input, limits, outlet),
+        Some(binary) => run_with_binary(alloc, &main, &binary, input, limits, outlet),
         None => run_bytes(alloc, &main, None, input, limits, outlet),
     }
+}
+
+/// Runs the program of the bytes of two files by its meaning.
+fn run_with_binary<O: Outlet>(
+    alloc: Global,
+    main: &[u8],
+    binary: &[u8],
+    input: Vec<u8>,
+    limits: Limits,
+    outlet: &mut O,
+) -> Result<SourceEnd, RunAnswer>
+    requires main { length main.now ≤ 1048576 }
+    requires binary { length binary.now ≤ 1048576 }
+    requires limits { AreLimits limits }
+    ensures answers { AnswersSources main.now (Some binary.now) input.items limits
+        (O.events outlet.old) (O.events outlet.new)
+        (Rose (O.faults outlet.old) (O.faults outlet.new)) (answer_from result) }
+    ensures write_faults { O.faults outlet.new ≡ write_faults_after (answer_from result) (O.faults outlet.old) }
+{
+    run_bytes(alloc, main, Some(binary), input, limits, outlet)
 }
 
 /// Runs the program of some bytes by its meaning.
