@@ -1,0 +1,2 @@
+int *local(void) { int y = 1; return &y; }
+int read(int *p) { return *p; }

@@ -1,0 +1,5 @@
+/* Lines of this file are told as its own. */
+int divide(int a, int b) {
+  return a
+    / b;
+}

@@ -1,0 +1,5 @@
+int next(void) {
+  int c = getchar();
+  if (c != EOF) putchar(c - 32);
+  return c;
+}

@@ -1,0 +1,3 @@
+int call(int (*f)(void)) {
+  return f();
+}

@@ -1,0 +1,1 @@
+char *text(void) { return "a"; }

@@ -1,0 +1,2 @@
+int f(int n) { int a[65535]; a[0] = n; return n == 0 ? 0 : f(n - 1); }
+int main(void) { return f(16); }

@@ -1,0 +1,2 @@
+int
+  g(int n) { return n == 0 ? 7 : g(n - 1); }

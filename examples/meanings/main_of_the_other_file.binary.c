@@ -1,0 +1,2 @@
+static int main(void) { return 'b'; }
+int call(void) { return main(); }

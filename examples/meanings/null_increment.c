@@ -1,0 +1,5 @@
+char *p;
+int main(void) {
+  p++;
+  return 0;
+}

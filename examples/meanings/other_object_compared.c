@@ -1,0 +1,2 @@
+int a; int b;
+int main(void) { return &a < &b; }

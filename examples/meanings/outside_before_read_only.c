@@ -1,0 +1,5 @@
+int main(void) {
+  char *s = "abc";
+  s[4] = 'd';
+  return 0;
+}

@@ -1,0 +1,5 @@
+int main(void) {
+  for (;;) {
+    { return -1; }
+  }
+}

@@ -1,0 +1,5 @@
+int main(void) {
+  putchar('a');
+  while (0) putchar('!');
+  return 0;
+}

@@ -1,0 +1,4 @@
+int f(int n) {
+  if (n == 3) while (n < 4) n++;
+  return n;
+}

@@ -1,0 +1,5 @@
+volatile int port;
+int main(void) {
+  for (;;)
+    ;
+}
