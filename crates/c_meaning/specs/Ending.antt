@@ -4,7 +4,7 @@ use Rattle.srmt_base.specs.declared.event.Event.{Event}
 use Rattle.srmt_base.specs.declared.event.Event.TheVariants.{Exit as ExitEvent}
 use Rattle.srmt_base.specs.declared.trap.SourceEnd.{SourceEnd}
 use Rattle.srmt_base.specs.declared.trap.SourceEnd.TheVariants.{Exit as ExitEnd, Trap as TrapEnd}
-use Rattle.srmt_outside.specs.Count.{Rose}
+use Rattle.srmt_outside.specs.Count.{next_count}
 use Rattle.srmt_outside.specs.Told.{Appends}
 use Rattle.c_typed.specs.declared.program.TypedProgram.{TypedProgram}
 use Rattle.source_meaning.specs.World.{Outcome, Gives, Ends}
@@ -36,7 +36,7 @@ next_of (did.Exited v) = next.Ends (ExitEnd (v % 256))
 abbrev pub Faulted : {A : Type 0} → Result A MeaningFault → ℕ → ℕ → Type 0
 Faulted (Ok a) before after = after ≡ before
 Faulted (Err Memory) before after = after ≡ before
-Faulted (Err Write) before after = Rose before after
+Faulted (Err Write) before after = after ≡ next_count before
 
 -- what is still to come, with a bound, where these events were before
 abbrev pub Rest : Type 0

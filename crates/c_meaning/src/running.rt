@@ -1,5 +1,5 @@
 ghost use Rattle.std.specs.Prelude.{◌≡◌, ℕ, ◌+◌, ◌*◌, ◌<◌, ◌≤◌, ◌∷◌, [], Some, IfOk, IfErr, OnOk, OnErr, IsErrOf};
-ghost use Rattle.srmt_outside.specs.Count.{Rose};
+ghost use Rattle.srmt_outside.specs.Count.{next_count};
 ghost use Rattle.srmt_outside.specs.Told.{Appends, AppendsPrefix};
 ghost use Rattle.c_typed.specs.StatementViews.{program_view};
 ghost use Rattle.source_meaning.specs.Sound.{CanRun};
@@ -231,8 +231,8 @@ pub fn evaluate<O: Outlet>(
     // After a fault the events so far are the first of them.
     ensures prefix { OnErr result (AppendsPrefix (O.events outlet.old) (O.events outlet.new) (means (program_view program.now) input.items limits).events) }
 
-    // A write fault comes exactly where the outlet's count of faults rose.
-    ensures write { IsErrOf result MeaningFault.Write → Rose (O.faults outlet.old) (O.faults outlet.new) }
+    // With a write fault the outlet has counted one fault more, and else none.
+    ensures write { IsErrOf result MeaningFault.Write → O.faults outlet.new ≡ next_count (O.faults outlet.old) }
     ensures memory { IsErrOf result MeaningFault.Memory → O.faults outlet.new ≡ O.faults outlet.old }
     ensures still { OnOk result (O.faults outlet.new ≡ O.faults outlet.old) }
 {
