@@ -1,6 +1,6 @@
 -- What is answered to a program that is run by its meaning.
 use Rattle.std.proofs.Common.{◌≡◌, ◌⊎◌, inl, inr, ℕ, ◌≤◌, ◌<◌, List, [], ◌∷◌, Option, Some, None, refl, sym, subst, arith}
-use Rattle.std.specs.Prelude.{suc, slice_index, IfSome}
+use Rattle.std.specs.Prelude.{suc, slice_index}
 use Rattle.srmt_base.specs.declared.event.Event.{Event}
 use Rattle.srmt_base.specs.declared.limits.Limits.{Limits}
 use Rattle.srmt_base.specs.declared.part.Part.{Part}
@@ -12,15 +12,13 @@ use Rattle.source_meaning.specs.Start.{Behaviour, means, objects_at_start}
 use Rattle.c_front.specs.Front.{IsSource, IsBinary, TypesFiles, RefusesFiles, IsRefusal}
 use Rattle.parsed_laws.specs.Parsed.{AreBytes, IsParsed, IsParsedIf, TypesBytes}
 use Rattle.c_meaning.specs.Limits.{FitLimits}
-use Rattle.answers.specs.declared.answer.CompileRefusal.{CompileRefusal}
 use Rattle.answers.specs.declared.answer.RunAnswer.{RunAnswer}
 use Rattle.answers.specs.declared.answer.RunAnswer.TheVariants.{Alone, Ran as RanBoth, Checked, Help, Version, Usage, ReadFault, TooLong, Refused, WriteFault, OutOfMemory}
 use Rattle.srmtrun.specs.declared.words.Mode.{Mode}
 use Rattle.srmtrun.specs.declared.words.Mode.TheVariants.{Reference}
-use Rattle.srmtrun.specs.Answer.{write_faults_after}
-use Rattle.srmtrun.specs.Words.{Command, IsTurns}
+use Rattle.srmtrun.specs.Words.{Command}
 use Rattle.srmtrun.specs.Reads.{Contents, Wanted, ReadsAll, IsInput, AreRead}
-use Rattle.srmtrun.specs.Still.{limits_with, limits_of, IsMeaning, AnswersMeaning, EndsAlone, FailsWriting, LacksMemory, RefusedAs, AsksFor}
+use Rattle.srmtrun.specs.Still.{limits_of, IsMeaning, AnswersMeaning, EndsAlone, FailsWriting, LacksMemory, RefusedAs, AsksFor}
 use Rattle.srmtrun.specs.Parts.{Serves, AreLimits, AnswersSources}
 use Rattle.srmtrun.proofs.Serving.{silent, refusal_asks, memory_asks}
 
@@ -55,15 +53,6 @@ pub room_fits : (program : Program) (limits : Limits) → AreLimits limits → (
 room_fits program limits are room =
     let turns = are.turns in let depth = are.depth in let cells = are.cells in let main = room Protected in let binary = room Binary in
     record { turns = omega arith; depth = omega arith; cells = omega arith; main_cells = omega arith; binary_cells = omega arith }
-
-pub limits_are : (turns : Option ℕ) → IfSome turns IsTurns → AreLimits (limits_with turns)
-limits_are None is = record { turns = omega arith; depth = refl; cells = refl }
-limits_are (Some n) is = record { turns = is.most; depth = refl; cells = refl }
-
--- a refusal writes nothing
-pub refusal_faults : (Refuses : CompileRefusal → Type 0) (answer : RunAnswer) → IsRefusal Refuses answer → (n : ℕ) → n ≡ write_faults_after answer n
-refusal_faults Refuses answer (inl memory) n = subst (λ (a : RunAnswer). n ≡ write_faults_after a n) (sym memory) refl
-refusal_faults Refuses answer (inr (cause, is, refuses)) n = subst (λ (a : RunAnswer). n ≡ write_faults_after a n) (sym is) refl
 
 -- ---- what its answer says
 
