@@ -213,7 +213,8 @@ fn run_main<'p, O: Outlet>(
     }
 }
 
-/// Runs a program on one thread, by its meaning: it writes the events, and answers the end.
+/// Runs a program on one thread, by its meaning: it writes the events, and answers the end. The input is in bytes; the
+/// limits are the turns, the activations and the cells that each part may use. After a fault the events so far stand.
 pub fn evaluate<O: Outlet>(
     alloc: Global,
     program: &TypedProgram,

@@ -24,6 +24,7 @@ pub(crate) enum ValueWork {
 /// What is to be done with values in order.
 #[derive(Clone, Copy)]
 pub(crate) enum ValuesWork {
+    /// They are evaluated, and stay.
     Evaluate,
     /// They are evaluated and dropped.
     Drop,
