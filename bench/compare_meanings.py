@@ -10,7 +10,8 @@ write and tell the same bytes and have the same status.
 
 Half of the programs are plain: no C compiler may order them in more than one way, and at most a sum, product, shift or
 quotient of theirs is undefined. gcc with its sanitizers must write the same as srmtrun, with the same status, where the
-run ends by itself, and must report an error where it ends as undefined; gcc -O2 must write the same too, where it ends by itself.
+run ends by itself, and must report an error at the same line where it ends as undefined; gcc -O2 must write the same too,
+where it ends by itself. What gcc's sanitizers leave out clang's are asked for, if it is there.
 
     bench/compare_meanings.py --print SEED         prints the program of a seed
 
@@ -22,6 +23,7 @@ import os
 import random
 import re
 import shlex
+import shutil
 import subprocess
 import sys
 import tempfile
@@ -751,13 +753,13 @@ def written(folder, made):
     return words
 
 
-def by_gcc(folder, made, options, prelude):
-    """What a build by gcc writes, its errors and its status; or None where gcc refuses the program."""
+def by_compiler(compiler, folder, made, options, prelude):
+    """What a build by a C compiler writes, its errors and its status; nothing is written where it refuses the program."""
     program = os.path.join(folder, "program")
-    built = subprocess.run(["gcc", "-std=c11", "-w", "-include", prelude, *options, "-o", program, *sources_of(folder, made)],
+    built = subprocess.run([compiler, "-std=c11", "-w", "-include", prelude, *options, "-o", program, *sources_of(folder, made)],
                            capture_output=True)
     if built.returncode:
-        return None, built.stderr, None
+        return b"", b"refused: " + built.stderr, None
     with open(os.path.join(folder, "input"), "rb") as file:
         try:
             done = subprocess.run([program], stdin=file, capture_output=True, timeout=60)
@@ -782,24 +784,38 @@ def lines_of(notes):
     return [line for line in notes.decode("latin1").splitlines() if line.startswith("srmtrun: ")]
 
 
+SANITIZERS = ["-O0", "-fsanitize=undefined,address", "-fno-sanitize-recover=all"]
+
+
+def against_undefined(folder, made, output, told, prelude):
+    """How a run that ended as undefined differs by the first compiler that is there and whose sanitizers see it."""
+    for compiler in ("gcc", "clang"):
+        if shutil.which(compiler) is None:
+            continue
+        out, errors, _ = by_compiler(compiler, folder, made, SANITIZERS, prelude)
+        found = re.search(rb"(main|binary)\.c:(\d+):\d+: runtime error", errors)
+        if not found:
+            continue
+        where = ("binary " if found[1] == b"binary" else "") + "line " + found[2].decode()
+        if out != output or not told.endswith(" at " + where):
+            return [f"{compiler}'s sanitizers: {where}, here {told}; output {'the same' if out == output else 'another'}"]
+        return []
+    return [] if folds(folder, made, prelude) else [f"the sanitizers report nothing, and here {told}"]
+
+
 def against_gcc(folder, made, here, prelude):
     """How a plain program differs by gcc, as a list of texts."""
     output, notes, status = here
     told = lines_of(notes)
     if any(": exhausted: " in line for line in told):
         return []
-    out, errors, ended = by_gcc(folder, made, ["-O0", "-fsanitize=undefined,address", "-fno-sanitize-recover=all"], prelude)
-    if out is None:
-        return ["gcc refuses it: " + errors.decode("latin1")[:300]]
     if told:
-        if b"runtime error" not in errors and b"Sanitizer" not in errors:
-            return [] if folds(folder, made, prelude) else [f"gcc's sanitizers report nothing, and here {told[0]}"]
-        return [] if out == output else ["gcc's sanitizers stop behind another output"]
-    if errors or (out, ended) != (output, status):
-        return [f"gcc's sanitizers: status {ended} {errors[:300]!r}, here {status}; output {'the same' if out == output else 'another'}"]
-    out, errors, ended = by_gcc(folder, made, ["-O2"], prelude)
-    if (out, ended) != (output, status):
-        return [f"gcc -O2: status {ended}, here {status}; output {'the same' if out == output else 'another'}"]
+        return against_undefined(folder, made, output, told[0], prelude)
+    for options in (SANITIZERS, ["-O2"]):
+        out, errors, ended = by_compiler("gcc", folder, made, options, prelude)
+        if errors or (out, ended) != (output, status):
+            same = "the same" if out == output else "another"
+            return [f"gcc {options[0]}: status {ended} {errors[:300]!r}, here {status}; output {same}"]
     return []
 
 
