@@ -11,7 +11,7 @@ write and tell the same bytes and have the same status.
 Half of the programs are plain: no C compiler may order them in more than one way, and at most a sum, product, shift or
 quotient of theirs is undefined. gcc with its sanitizers must write the same as srmtrun, with the same status, where the
 run ends by itself, and must report an error at the same line where it ends as undefined; gcc -O2 must write the same too,
-where it ends by itself. What gcc's sanitizers leave out clang's are asked for, if it is there.
+where it ends by itself. Where gcc's sanitizers see something else, clang's may see the same in their place, if it is there.
 
     bench/compare_meanings.py --print SEED         prints the program of a seed
 
@@ -787,30 +787,35 @@ def lines_of(notes):
 SANITIZERS = ["-O0", "-fsanitize=undefined,address", "-fno-sanitize-recover=all"]
 
 
-def against_undefined(folder, made, output, told, prelude):
-    """How a run that ended as undefined differs by the first compiler that is there and whose sanitizers see it."""
+def against_undefined(folder, made, output, told, prelude, kinds):
+    """How a run that ended as undefined differs by gcc's sanitizers and clang's: nothing, where one of them sees the same."""
+    differences = []
     for compiler in ("gcc", "clang"):
         if shutil.which(compiler) is None:
             continue
         out, errors, _ = by_compiler(compiler, folder, made, SANITIZERS, prelude)
         found = re.search(rb"(main|binary)\.c:(\d+):\d+: runtime error", errors)
         if not found:
+            differences.append(f"{compiler}'s sanitizers report nothing, and here {told}")
             continue
         where = ("binary " if found[1] == b"binary" else "") + "line " + found[2].decode()
-        if out != output or not told.endswith(" at " + where):
-            return [f"{compiler}'s sanitizers: {where}, here {told}; output {'the same' if out == output else 'another'}"]
+        if out == output and told.endswith(" at " + where):
+            return []
+        differences.append(f"{compiler}'s sanitizers: {where}, here {told}; output {'the same' if out == output else 'another'}")
+    if folds(folder, made, prelude):
+        kinds.append("by gcc only in part, since it folds constants")
         return []
-    return [] if folds(folder, made, prelude) else [f"the sanitizers report nothing, and here {told}"]
+    return differences
 
 
-def against_gcc(folder, made, here, prelude):
+def against_gcc(folder, made, here, prelude, kinds):
     """How a plain program differs by gcc, as a list of texts."""
     output, notes, status = here
     told = lines_of(notes)
     if any(": exhausted: " in line for line in told):
         return []
     if told:
-        return against_undefined(folder, made, output, told[0], prelude)
+        return against_undefined(folder, made, output, told[0], prelude, kinds)
     for options in (SANITIZERS, ["-O2"]):
         out, errors, ended = by_compiler("gcc", folder, made, options, prelude)
         if errors or (out, ended) != (output, status):
@@ -838,7 +843,7 @@ def compare(seed, arguments, prelude):
                 differences.append(f"the other: {', '.join(parts)} differ: here {here[2]} {here[1][-200:]!r}, there {other[2]} {other[1][-200:]!r}")
         if made.plain and not arguments.no_gcc and not differences:
             kinds.append("by gcc")
-            differences += against_gcc(folder, made, here, prelude)
+            differences += against_gcc(folder, made, here, prelude, kinds)
         if differences and arguments.keep:
             kept = os.path.join(arguments.keep, str(seed))
             os.makedirs(kept, exist_ok=True)
