@@ -818,6 +818,9 @@ def against_gcc(folder, made, here, prelude, kinds):
         return against_undefined(folder, made, output, told[0], prelude, kinds)
     for options in (SANITIZERS, ["-O2"]):
         out, errors, ended = by_compiler("gcc", folder, made, options, prelude)
+        if b"internal compiler error" in errors and shutil.which("clang") is not None:
+            kinds.append("by clang, since gcc breaks off")
+            out, errors, ended = by_compiler("clang", folder, made, options, prelude)
         if errors or (out, ended) != (output, status):
             same = "the same" if out == output else "another"
             return [f"gcc {options[0]}: status {ended} {errors[:300]!r}, here {status}; output {same}"]
