@@ -1,0 +1,11 @@
+pub mod MakingParts
+pub mod PlainValues
+pub mod ValuePlans
+pub mod Sizes
+pub mod Landing
+pub mod StatementPlans
+pub mod LocalPlans
+pub mod LoopPlans
+pub mod RoundPlans
+pub mod AllPlans
+pub mod SteadyStages
