@@ -1,0 +1,2 @@
+-- How many tokens the trees of a file have.
+pub mod TokensOf
