@@ -8,3 +8,10 @@ pub mod DeclarationNumbers
 pub mod StatementNumbers
 pub mod TokenNumbers
 pub mod UnitNumbers
+pub mod Counting
+pub mod ExpressionTokens
+pub mod DeclarationTokens
+pub mod StatementTokens
+pub mod UnitTokens
+pub mod ValuesGiven
+pub mod FewEvents
