@@ -1,5 +1,5 @@
 -- What the lines of a grammar spell asks for no more tokens than spell it, where their parts do.
-use Rattle.std.proofs.Common.{◌≡◌, ℕ, ◌+◌, ◌≤◌, List, [], ◌∷◌, ◌++◌, length, sym, subst, ap, Option, Some, None, inl, inr, arith, length-append}
+use Rattle.std.proofs.Common.{◌≡◌, ℕ, ◌+◌, ◌≤◌, List, [], ◌∷◌, length, sym, subst, ap, Option, Some, None, inl, inr, arith, length-append}
 use Rattle.std.specs.Prelude.{fold}
 use Rattle.c_lexer.specs.declared.token.Token.{Token}
 use Rattle.c_expr.specs.Spelling.{Spelling, Means, Is, Sequence, ◌<$>◌, ◌or◌, Never, Many, Grown, Further, Listed, Maybe, In_parens, push}

@@ -1,6 +1,5 @@
 -- A declaration that the grammar derives has no more tokens than those that spell it.
 use Rattle.std.proofs.Common.{◌≡◌, ℕ, zero, suc, ◌+◌, ◌≤◌, List, [], ◌∷◌, map, ap, Option, Some, None, arith}
-use Rattle.std.specs.Prelude.{option_map}
 use Rattle.c_tree.specs.declared.expression.Expr.{Expr}
 use Rattle.c_tree.specs.declared.declaration.Declaration.{Declaration}
 use Rattle.c_tree.specs.declared.declaration.Item.{Item}
@@ -15,7 +14,7 @@ use Rattle.c_parser.specs.StatementNodes.{declaration_node}
 use Rattle.typing_rules.specs.SourceViews.{initials_from, initial_view, item_view, declaration_view}
 use Rattle.typing_rules.proofs.SourceStatementViewLaws.{view_single, view_braced}
 use Rattle.event_laws.specs.TokensOf.{tokens_of_initial, tokens_of_initials, tokens_of_item, tokens_of_declared, tokens_of_declaration}
-use Rattle.parsed_laws.proofs.Counting.{Takes, takes_so, takes_is, takes_bind, takes_then, takes_token, takes_map, takes_or, takes_maybe, AskedIf, Together, takes_listed}
+use Rattle.parsed_laws.proofs.Counting.{Takes, takes_is, takes_bind, takes_then, takes_token, takes_map, takes_or, takes_maybe, AskedIf, Together, takes_listed}
 use Rattle.parsed_laws.proofs.ExpressionTokens.{tokens, HasExpr, expr_takes, HasOne, declarator_takes}
 
 pub any_declarator_takes : (src : Bytes) → Takes HasOne (AnyDeclarator src n.Named)

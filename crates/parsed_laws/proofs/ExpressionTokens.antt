@@ -1,5 +1,5 @@
 -- An expression that the grammar derives has no more tokens than those that spell it.
-use Rattle.std.proofs.Common.{◌≡◌, ℕ, zero, suc, ◌+◌, ◌≤◌, List, [], ◌∷◌, map, length, refl, sym, subst, ap, ◌∙◌, Option, Some, None, arith}
+use Rattle.std.proofs.Common.{◌≡◌, ℕ, zero, suc, ◌+◌, ◌≤◌, List, [], ◌∷◌, map, length, refl, subst, ap, ◌∙◌, Option, Some, None, arith}
 use Rattle.std.specs.Prelude.{option_map}
 use Rattle.srmt_base.specs.declared.ty.Ty.{Ty}
 use Rattle.c_lexer.specs.declared.token.TokenKind.{TokenKind}
@@ -27,7 +27,7 @@ use Rattle.typing_rules.specs.SourceViews.{exprs_from, binary_from, assignment_f
 use Rattle.typing_rules.proofs.Exactness.{some_same}
 use Rattle.typing_rules.proofs.SourceViewLaws.{view_name, view_number, view_character, view_text, view_parenthesized, view_index, view_call, view_postfix, view_prefix, view_sizeofexpr, view_sizeoftype, view_cast, view_binary, view_conditional, view_assign, view_comma, view_expr}
 use Rattle.event_laws.specs.TokensOf.{tokens_of, tokens_in}
-use Rattle.parsed_laws.proofs.Counting.{Takes, takes_so, takes_is, takes_bind, takes_then, takes_token, takes_map, takes_or, Together, one_more, takes_grown, takes_listed, takes_parens}
+use Rattle.parsed_laws.proofs.Counting.{Takes, takes_so, takes_is, takes_bind, takes_then, takes_token, takes_map, takes_or, Together, one_more, takes_grown, takes_listed}
 
 module _ (shift : ℕ → ℕ) where
   abbrev pub tokens : Expr → ℕ

@@ -1,13 +1,10 @@
 -- A program that is parsed of files of at most 1,048,576 bytes has short functions, and so few events.
-use Rattle.std.proofs.Common.{ℕ, ◌≤◌, ◌<◌, ◌^◌, List, length, Option, Some, None}
+use Rattle.std.proofs.Common.{ℕ, ◌≤◌, length, Option, Some, None}
 use Rattle.std.specs.Prelude.{option_map}
-use Rattle.srmt_base.specs.declared.limits.Limits.{Limits}
 use Rattle.c_tree.specs.declared.unit.Unit.{Unit as TreeUnit}
 use Rattle.c_typed.specs.Statements.{Program}
 use Rattle.c_expr.specs.Nodes.{Bytes}
 use Rattle.source_meaning.specs.EventLaws.{HasShortFunctions}
-use Rattle.source_meaning.specs.Start.{means}
-use Rattle.source_meaning.proofs.EventStatements.{few_events}
 use Rattle.typing_rules.specs.SourceViews.{unit_view, main_line, binary_line}
 use Rattle.typing_laws.specs.LanguagePrograms.{IfThere}
 use Rattle.event_laws.specs.TokensOf.{AreShort}

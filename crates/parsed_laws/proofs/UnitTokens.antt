@@ -5,7 +5,6 @@ use Rattle.c_lexer.specs.Tokens.{Lexes, LieWithin}
 use Rattle.c_lexer.proofs.Wholes.{lexes_within}
 use Rattle.c_tree.specs.declared.unit.Unit.{Unit as TreeUnit}
 use Rattle.c_tree.specs.declared.unit.External.{External}
-use Rattle.c_tree.specs.declared.unit.External.TheVariants as x
 use Rattle.c_expr.specs.Nodes.{Bytes}
 use Rattle.c_parser.specs.StatementNodes.{unit_node}
 use Rattle.c_parser.specs.Units.{IsExternal, IsUnit, Derives}

@@ -1,6 +1,6 @@
 -- That each expression that stands in a body by itself is such: those that a statement or an initializer evaluates, and
 -- none of their operands.
-use Rattle.std.specs.Prelude.{List, Option}
+use Rattle.std.specs.Prelude.{List}
 use Rattle.c_typed.specs.Typed.{Value}
 use Rattle.c_typed.specs.Statements.{Initializer, scalar, cells, LocalItem, ForStart, starts, declares, Stmt, block, empty, expression, if_only, if_else, while, do_while, for, continue, break, return, Items, no_items, declaration, statement}
 use Rattle.typing_rules.specs.Laws.{Each}
