@@ -102,13 +102,16 @@ pub takes_further : {A : Type 0} {P : A → ℕ → Type 0} {S : Spelling A} →
 takes_further {P = P} s =
     takes_so (takes_grown {P = Together P} push (one_more P) s [] 0 tt) (λ xs k h. subst (Together P xs) (zero_plus k) h)
 
--- with commas between, which count or not
+-- with commas between; what is enough for a value is enough with one more
 pub takes_listed : {A : Type 0} {P : A → ℕ → Type 0} {S : Spelling A} → ((x : A) (k : ℕ) → P x k → P x (1 + k)) → Takes P S
     → Takes (Together P) (Listed S)
 takes_listed {P = P} more s =
     takes_bind s (λ x m p. takes_grown {P = Together P} push (one_more P) (takes_token (λ t. takes_so s more)) (x ∷ []) m
     (m, 0, p, tt, omega arith))
 
-pub takes_parens : {A : Type 0} {P : A → ℕ → Type 0} {S : Spelling A} → ((x : A) (k : ℕ) → P x k → P x (1 + (k + (1 + 0)))) → Takes P S
-    → Takes P (In_parens S)
-takes_parens more s = takes_token (λ t. takes_bind s (λ x m p. takes_token (λ u. takes_is (more x m p))))
+one_behind : (m : ℕ) → 1 + m ≡ m + (1 + 0)
+one_behind m = omega arith
+
+pub takes_parens : {A : Type 0} {P : A → ℕ → Type 0} {S : Spelling A} → ((x : A) (k : ℕ) → P x k → P x (1 + k)) → Takes P S → Takes P (In_parens S)
+takes_parens {P = P} more s =
+    takes_token (λ t. takes_bind s (λ x m p. takes_token (λ u. takes_is (more x (m + (1 + 0)) (subst (P x) (one_behind m) (more x m p))))))

@@ -72,7 +72,8 @@ module _ (shift : ℕ → ℕ) where
 
   takes_item : (src : Bytes) → Takes HasItem (IsItem src)
   takes_item src =
-      takes_bind (any_declarator_takes src) (λ declarator m h. takes_bind (takes_maybe (takes_given src)) (λ given k q. takes_is (has declarator m given k h q)))
+      takes_bind (any_declarator_takes src) (λ declarator m h. takes_bind (takes_maybe (takes_given src)) (λ given k q.
+      takes_is (has declarator m given k h q)))
     where
       has : (declarator : _) (m : ℕ) (given : Option Initializer) (k : ℕ) → 1 ≤ m → AskedIf Has given k
           → HasItem (record { declarator = declarator; initializer = given }) (m + (k + 0))

@@ -9,6 +9,7 @@ use Rattle.c_tree.specs.declared.operator.BinaryOp.TheVariants.{Arithmetic, And,
 use Rattle.c_tree.specs.declared.operator.CompoundOp.{CompoundOp}
 use Rattle.c_tree.specs.declared.operator.PrefixOp.{PrefixOp}
 use Rattle.c_tree.specs.declared.operator.PostfixOp.{PostfixOp}
+use Rattle.c_tree.specs.declared.specifier.Pointer.{Pointer}
 use Rattle.c_tree.specs.declared.expression.Expr.{Expr}
 use Rattle.c_tree.specs.declared.expression.ExprNode.{ExprNode}
 use Rattle.c_tree.specs.declared.expression.ExprNode.TheVariants as e
@@ -21,7 +22,7 @@ use Rattle.c_expr.specs.declared.start.Naming.TheVariants as n
 use Rattle.c_expr.specs.Codes.{Table, binary_operators, levels, step_operators, unary_operators}
 use Rattle.c_expr.specs.Spelling.{Spelling}
 use Rattle.c_expr.specs.Nodes.{Bytes, at_line, line_of, spelling, constant_node, comma_node, with_operand}
-use Rattle.c_expr.specs.Grammar.{IsNamed, IsNested, IsDeclaratorLine, IsName, IsConstant, IsTexts, IsParenthesized, IsPrimary, IsIndex, IsArguments, IsCall, IsStep, IsPostfix, IsSizeof, IsPrefix, IsUnary, IsTyped, IsCast, IsOperation, operated, IsLevel, IsBranches, IsConditional, IsAssigned, IsAssignment, IsExpression, IsExprLine, ExprAt, DeclaratorAt}
+use Rattle.c_expr.specs.Grammar.{IsNamed, IsNested, IsPointerAlone, IsDeclaratorLine, IsName, IsConstant, IsTexts, IsParenthesized, IsPrimary, IsIndex, IsArguments, IsCall, IsStep, IsPostfix, IsSizeof, IsPrefix, IsUnary, IsTyped, IsCast, IsOperation, operated, IsLevel, IsBranches, IsConditional, IsAssigned, IsAssignment, IsExpression, IsExprLine, ExprAt, DeclaratorAt}
 use Rattle.typing_rules.specs.Source as t
 use Rattle.typing_rules.specs.SourceViews.{exprs_from, binary_from, assignment_from, expr_view, node_view}
 use Rattle.typing_rules.proofs.Exactness.{some_same}
@@ -39,9 +40,6 @@ module _ (shift : ℕ → ℕ) where
   -- what is enough is enough with one more
   pub expr_more : (x : Expr) (k : ℕ) → HasExpr x k → HasExpr x (1 + k)
   expr_more x k h = omega (arith, h)
-
-  pub expr_parens : (x : Expr) (k : ℕ) → HasExpr x k → HasExpr x (1 + (k + (1 + 0)))
-  expr_parens x k h = omega (arith, h)
 
   -- ---- nodes
 
@@ -285,12 +283,14 @@ module _ (src : Bytes) (E : Start → Spelling Expr) (D : Naming → Spelling De
   takes_nested = takes_bind {P = HasOne} (takes_token (λ o. takes_then (λ x m. takes_token (λ c. takes_is (omega arith)))))
       (λ inner m h. takes_then (λ found k. takes_is (omega (arith, h))))
 
+  no_pointer_alone : (ps : List Pointer) → Takes HasOne (IsPointerAlone src E D n.Named ps)
+  no_pointer_alone ps = record { takes = λ x w h. absurd h }
+
   takes_declarator : Takes HasOne (IsDeclaratorLine src E D n.Named)
   takes_declarator = record {
     takes = λ x w h.
-        let rest : Takes HasOne _ = takes_then (λ ps m. takes_bind {P = HasOne} (takes_or (takes_or takes_named takes_nested) (record { takes = λ x w h. absurd h }))
-        (λ found k q. takes_is (omega (arith, q)))) in
-        rest.takes x w h;
+        let rest : Takes HasOne _ = takes_then (λ ps m. takes_bind {P = HasOne} (takes_or (takes_or takes_named takes_nested) (no_pointer_alone ps))
+        (λ found k q. takes_is (omega (arith, q)))) in rest.takes x w h;
   }
 
 pub declarator_takes : (src : Bytes) (depth : ℕ) → Takes HasOne (DeclaratorAt src depth n.Named)

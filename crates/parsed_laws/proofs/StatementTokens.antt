@@ -22,7 +22,7 @@ use Rattle.typing_rules.specs.SourceViews.{all_items, for_start_view, expr_view,
 use Rattle.typing_rules.proofs.SourceStatementViewLaws.{view_block, view_empty, view_expr, view_if_only, view_if_else, view_while, view_do, view_for, view_continue, view_break, view_return, view_stmt, view_items, view_declaration, view_statement}
 use Rattle.event_laws.specs.TokensOf.{tokens_if, tokens_first, tokens_of_statement, tokens_of_items, tokens_of_declaration}
 use Rattle.parsed_laws.proofs.Counting.{Takes, takes_so, takes_is, takes_never, takes_bind, takes_token, takes_map, takes_or, takes_maybe, AskedIf, Together, takes_further, takes_parens}
-use Rattle.parsed_laws.proofs.ExpressionTokens.{tokens, HasExpr, expr_parens}
+use Rattle.parsed_laws.proofs.ExpressionTokens.{tokens, HasExpr, expr_more}
 use Rattle.parsed_laws.proofs.DeclarationTokens.{any_expr_takes, declaration_takes}
 
 module _ (shift : ℕ → ℕ) where
@@ -146,7 +146,7 @@ module _ (shift : ℕ → ℕ) where
     takes_empty_stmt = takes_token (λ c. takes_is (omega (arith, empty_is c.line)))
 
     takes_test : Takes (HasExpr shift) (In_parens (AnyExpr src at.Expression))
-    takes_test = takes_parens (expr_parens shift) (any_expr_takes shift src _)
+    takes_test = takes_parens (expr_more shift) (any_expr_takes shift src _)
 
     abbrev HasElse : Option Stmt × Bool → ℕ → Type 0
     HasElse p k = AskedIf HasStmt p.0 k
