@@ -1,0 +1,236 @@
+ghost use Rattle.std.specs.Prelude.{◌≡◌, ℕ, ◌∷◌, List, [], Some, None, option_map, OnOk};
+ghost use Rattle.mid_code.specs.declared.mid.Mid.TheVariants as mid_of;
+ghost use Rattle.lower.specs.Emitting.{at_line};
+ghost use Rattle.lower.specs.SoFar.{Leads, leads_of, with_line, landed, leading_to, IsHere};
+ghost use Rattle.lower.specs.Emits.{told, instruction_view};
+ghost use Rattle.lower.specs.Drafts.{leads_by, TakesLines};
+
+use mid_code::{Mid, MidLine};
+use std::alloc::{AllocError, Global};
+use std::marker::Model;
+use std::mem;
+
+/// The most instructions of a function.
+const MOST_INSTRUCTIONS: usize = 65_535;
+
+/// Where an instruction leads.
+#[derive(Clone, Copy)]
+enum Target {
+    /// Where it says.
+    Known,
+    /// Behind a loop, by its number.
+    Break(usize),
+    /// To the next round of a loop.
+    Continue(usize),
+}
+
+/// An instruction of which it may not be known yet where it leads.
+#[derive(Clone, Copy)]
+struct Draft {
+    line: u32,
+    mid: Mid,
+    target: Target,
+}
+
+/// Where the jumps of a loop lead: its end, and its next round.
+#[derive(Clone, Copy)]
+struct Places {
+    break_at: u32,
+    continue_at: u32,
+}
+
+/// Those of a loop that is not over.
+const UNKNOWN: Places = Places {
+    break_at: 0,
+    continue_at: 0,
+};
+
+/// The code of a function so far. Where it is too long, what it holds tells nothing.
+#[derive(Drop)]
+pub(crate) struct Code {
+    drafts: Vec<Draft>,
+    is_long: bool,
+    /// The loops so far, by their numbers. The first stands for the function.
+    loops: Vec<Places>,
+    /// The number of the innermost loop that is open, and those of the loops around it.
+    current: usize,
+    outer: Vec<usize>,
+}
+
+impl Model for Code {
+    ghost use Rattle.std.specs.Prelude.{◌×◌, ◌≤◌, length, All, IsTrue};
+    ghost use Rattle.lower.specs.SoFar.{SoFar, most_instructions};
+    ghost use Rattle.lower.specs.Drafts.{code_view, AreOpen, IsBelow};
+
+    ghost Value = { SoFar };
+
+    ghost view = { λ c. code_view c.is_long c.loops.items c.current c.outer.items c.drafts.items };
+
+    ghost invariant = { λ c.
+        (length c.drafts.items ≤ most_instructions)
+        × (IsTrue c.is_long → length c.drafts.items ≡ most_instructions)
+        × All (IsBelow (length c.loops.items)) c.drafts.items
+        × AreOpen c.loops.items (length c.loops.items) c.current c.outer.items };
+}
+
+/// The same instruction with another place, where it is a jump.
+fn led(mid: Mid, place: u32) -> Mid
+    ensures { instruction_view result ≡ leading_to place (instruction_view mid) }
+{
+    match mid {
+        Mid::Jump { .. } => Mid::Jump { place },
+        Mid::JumpZ { source, .. } => Mid::JumpZ { source, place },
+        Mid::JumpN { source, .. } => Mid::JumpN { source, place },
+        other => other,
+    }
+}
+
+impl Code {
+    /// No instruction.
+    pub(crate) fn new(alloc: Global) -> Result<Self, AllocError>
+        ensures { OnOk result (λ code. (leads : List Leads) → code leads ≡ Some []) }
+    {
+        let mut loops = Vec::new(alloc);
+        loops.push(UNKNOWN)?;
+        Ok(Code {
+            drafts: Vec::new(alloc),
+            is_long: false,
+            loops,
+            current: 0,
+            outer: Vec::new(alloc),
+        })
+    }
+
+    /// The place of the next instruction, which is 65,536 where the code is too long.
+    pub(crate) fn here(&self) -> u32
+        ensures { (leads : List Leads) → IsHere result (self.now leads) }
+    {
+        if self.is_long {
+            MOST_INSTRUCTIONS as u32 + 1
+        } else {
+            self.drafts.len() as u32
+        }
+    }
+
+    /// An instruction more, unless there are too many.
+    fn draft(&mut self, draft: Draft) -> Result<(), AllocError> {
+        if self.drafts.len() >= MOST_INSTRUCTIONS {
+            self.is_long = true;
+            return Ok(());
+        }
+        self.drafts.push(draft)?;
+        Ok(())
+    }
+
+    /// An instruction more.
+    pub(crate) fn emit(&mut self, line: u32, mid: Mid) -> Result<(), AllocError>
+        ensures { OnOk result ((leads : List Leads) → self.new leads ≡ with_line (told line mid) (self.old leads)) }
+    {
+        self.draft(Draft {
+            line,
+            mid,
+            target: Target::Known,
+        })
+    }
+
+    /// A jump behind the innermost loop.
+    pub(crate) fn emit_break(&mut self, line: u32) -> Result<(), AllocError>
+        ensures { OnOk result ((leads : List Leads) → self.new leads ≡ with_line (at_line line (mid_of.Jump (leads_of leads).break_at)) (self.old leads)) }
+    {
+        self.draft(Draft {
+            line,
+            mid: Mid::Jump { place: 0 },
+            target: Target::Break(self.current),
+        })
+    }
+
+    /// A jump to the next round of the innermost loop.
+    pub(crate) fn emit_continue(&mut self, line: u32) -> Result<(), AllocError>
+        ensures { OnOk result ((leads : List Leads) → self.new leads ≡ with_line (at_line line (mid_of.Jump (leads_of leads).continue_at)) (self.old leads)) }
+    {
+        self.draft(Draft {
+            line,
+            mid: Mid::Jump { place: 0 },
+            target: Target::Continue(self.current),
+        })
+    }
+
+    /// The jump at a place leads to another one.
+    pub(crate) fn lead(&mut self, at: u32, place: u32)
+        ensures { (leads : List Leads) → self.new leads ≡ option_map (landed at place) (self.old leads) }
+    {
+        if let Some(draft) = self.drafts.get_mut(at as usize) {
+            draft.mid = led(draft.mid, place);
+            draft.target = Target::Known;
+        }
+    }
+
+    /// A loop begins. The code so far has none of its jumps.
+    pub(crate) fn begin_loop(&mut self) -> Result<(), AllocError>
+        ensures { OnOk result ((l : Leads) (leads : List Leads) → self.new (l ∷ leads) ≡ self.old leads) }
+    {
+        let number = self.loops.len();
+        self.loops.push(UNKNOWN)?;
+        self.outer.push(mem::replace(&mut self.current, number))?;
+        Ok(())
+    }
+
+    /// The innermost loop ends: it is known where its jumps lead.
+    pub(crate) fn end_loop(&mut self, break_at: u32, continue_at: u32) -> Result<(), AllocError>
+        ensures {
+            OnOk result
+                ((leads : List Leads) → self.new leads ≡ self.old (record { break_at = break_at; continue_at = continue_at } ∷ leads))
+        }
+    {
+        if let Some(places) = self.loops.get_mut(self.current) {
+            *places = Places {
+                break_at,
+                continue_at,
+            };
+        }
+        match self.outer.pop() {
+            Some(number) => {
+                self.current = number;
+            }
+            None => {
+                self.current = self.loops.len();
+                self.loops.push(UNKNOWN)?;
+            }
+        }
+        Ok(())
+    }
+
+    /// The instructions, or `None` where they are too many.
+    pub(crate) fn into_lines(self, alloc: Global) -> Result<Option<Vec<MidLine>>, AllocError>
+        ensures { OnOk result (TakesLines (self [])) }
+    {
+        if self.is_long {
+            return Ok(None);
+        }
+        let mut lines = Vec::with_capacity(alloc, self.drafts.len())?;
+        for draft in &self.drafts {
+            lines.push(draft.at(&self.loops))?;
+        }
+        Ok(Some(lines))
+    }
+}
+
+impl Draft {
+    /// The instruction, where each loop has its places.
+    fn at(&self, loops: &[Places]) -> MidLine {
+        let mid = match self.target {
+            Target::Known => self.mid,
+            Target::Break(number) => led(self.mid, places_of(loops, number).break_at),
+            Target::Continue(number) => led(self.mid, places_of(loops, number).continue_at),
+        };
+        MidLine {
+            line: self.line,
+            mid,
+        }
+    }
+}
+
+/// Where the jumps of a loop lead.
+fn places_of(loops: &[Places], number: usize) -> Places {
+    loops.get(number).copied().unwrap_or(UNKNOWN)
+}
