@@ -1,5 +1,5 @@
 -- How the code keeps what it does not know yet: a jump that leaves a loop names the loop by its number.
-use Rattle.std.specs.Prelude.{◌≡◌, ◌<◌, ◌==◌, ℕ, zero, suc, Bool, true, false, if◌then◌else◌, List, [], ◌∷◌, length, map, reverse, Option, Some, None, slice_index_or}
+use Rattle.std.specs.Prelude.{◌≡◌, ◌<◌, ◌==◌, ℕ, zero, suc, Bool, true, false, if◌then◌else◌, List, [], ◌∷◌, length, map, reverse, Option, Some, None, slice_index_or, IsTrue, All, ◌≤◌}
 use Rattle.std.specs.declared.alloc.Global.{Global}
 use Rattle.std.specs.declared.vec.Vec.{Vec}
 use Rattle.mid_code.specs.declared.program.MidLine.{MidLine}
@@ -8,8 +8,8 @@ use Rattle.lower.specs.declared.code.Places.{Places}
 use Rattle.lower.specs.declared.code.Target.{Target}
 use Rattle.lower.specs.declared.code.Target.TheVariants.{Known, Break, Continue}
 use Rattle.lower.specs.Emitting.{Line}
-use Rattle.lower.specs.SoFar.{Leads, leads_of, leads_around, Lines, SoFar, line_to}
-use Rattle.lower.specs.Emits.{told, line_view}
+use Rattle.lower.specs.SoFar.{Leads, leads_of, leads_around, Lines, SoFar, line_to, most_instructions}
+use Rattle.lower.specs.Instructions.{told, line_view}
 
 -- ---- where loops lead
 
@@ -23,7 +23,7 @@ known_leads loops n = leads_view (slice_index_or loops n (record { break_at = 0;
 -- those of a loop where these are open, the innermost first
 abbrev pub leads_by : List Places → List ℕ → List Leads → ℕ → Leads
 leads_by loops [] leads n = known_leads loops n
-leads_by loops (m ∷ open) leads n = if n == m then leads_of leads else leads_by loops open (leads_around leads) n
+leads_by loops (m ∷ rest) leads n = if n == m then leads_of leads else leads_by loops rest (leads_around leads) n
 
 -- ---- lines
 
@@ -39,8 +39,17 @@ abbrev pub lines_if : Bool → List Line → Lines
 lines_if true ls = None
 lines_if false ls = Some ls
 
-abbrev pub code_view : Bool → List Places → ℕ → List ℕ → List Draft → SoFar
-code_view is_long loops current outer drafts leads = lines_if is_long (map (line_of (leads_by loops (current ∷ reverse outer) leads)) drafts)
+-- what the code holds
+pub record Held : Type 0 where
+  pub is_long : Bool
+  pub loops : List Places
+  pub current : ℕ
+  pub outer : List ℕ
+  pub drafts : List Draft
+
+-- the code so far
+unfoldable pub code_of : Held → SoFar
+code_of h leads = lines_if h.is_long (map (line_of (leads_by h.loops (h.current ∷ reverse h.outer) leads)) h.drafts)
 
 -- a draft names a loop whose number is below
 abbrev pub IsBelow : ℕ → Draft → Type 0
@@ -54,10 +63,14 @@ IsBelow bound d = by d.target
 -- loops are open, each with a number below that of the one inside it, and it is not known yet where they lead
 abbrev pub OpenBelow : List Places → ℕ → List ℕ → Type 0
 OpenBelow loops bound [] = Unit {0}
-OpenBelow loops bound (m ∷ open) = (m < bound) × (known_leads loops m ≡ record { break_at = 0; continue_at = 0 }) × OpenBelow loops m open
+OpenBelow loops bound (m ∷ rest) = (m < bound) × (known_leads loops m ≡ record { break_at = 0; continue_at = 0 }) × OpenBelow loops m rest
 
-abbrev pub AreOpen : List Places → ℕ → ℕ → List ℕ → Type 0
-AreOpen loops bound current outer = OpenBelow loops bound (current ∷ reverse outer)
+-- the code is not more than a function may have, and its jumps name loops
+pub record IsHeld (h : Held) : Type 0 where
+  pub few : length h.drafts ≤ most_instructions
+  pub full : IsTrue h.is_long → length h.drafts ≡ most_instructions
+  pub below : All (IsBelow (length h.loops)) h.drafts
+  pub opened : OpenBelow h.loops (length h.loops) (h.current ∷ reverse h.outer)
 
 -- ---- what is handed out
 

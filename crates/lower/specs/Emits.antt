@@ -1,14 +1,12 @@
 -- What making code does to a function that is being lowered: registers are allotted, and its code grows.
 use Rattle.std.specs.Prelude.{◌≡◌, ◌==◌, ℕ, Bool, true, false, List, [], ◌∷◌, ◌++◌, map, All, Result, Ok, Err, ⊤}
 use Rattle.mid_code.specs.declared.mid.Mid.{Mid}
-use Rattle.mid_code.specs.declared.program.MidLine.{MidLine}
-use Rattle.mid_code.specs.declared.mid.Mid.TheVariants as mid
-use Rattle.mid_code.specs.Registers.{registers_list}
 use Rattle.c_types.specs.declared.type_ref.TypeRef.{TypeRef}
 use Rattle.c_types.specs.Types.{CType}
 use Rattle.c_types.specs.declared.type_ref.Row.{Row}
 use Rattle.c_types.specs.Table.{type_at, Stands}
 use Rattle.c_typed.specs.StatementViews.{row_view, program_view}
+use Rattle.lower.specs.Drafts.{code_of}
 use Rattle.lower.specs.declared.allotted.Allotted.{Allotted as CodeAllotted}
 use Rattle.lower.specs.declared.emitter.Emitter.{Emitter}
 use Rattle.lower.specs.declared.inside.Inside.{Inside as CodeInside}
@@ -19,23 +17,12 @@ use Rattle.lower.specs.declared.emitter.Located.TheVariants as code_located
 use Rattle.lower.specs.declared.emitter.Change.{Change as CodeChange}
 use Rattle.lower.specs.declared.refusal.LowerRefusal.{LowerRefusal}
 use Rattle.lower.specs.declared.refusal.LowerRefusal.TheVariants.{TooManyRegisters, TooLong, Memory}
-use Rattle.lower.specs.Emitting.{Instruction, plain, calls, calls_through, Line, Code, Around, Allotted, Made, Making, emits_code}
+use Rattle.lower.specs.Emitting.{Code, Around, Allotted, Made, Making, emits_code}
+use Rattle.lower.specs.Instructions.{told}
 use Rattle.lower.specs.Expressions.{Inside, Where, in_register, in_memory, Located, held, stored, Change}
 use Rattle.lower.specs.SoFar.{Leads, SoFar, grown}
 
 -- ---- what the data of the code stand for
-
-abbrev pub instruction_view : Mid → Instruction
-instruction_view (mid.Call target function args) = calls target function (registers_list args)
-instruction_view (mid.CallPtr target callee type args) = calls_through target callee type (registers_list args)
-instruction_view other = plain other
-
-abbrev pub line_view : MidLine → Line
-line_view l = record { line = l.line; instruction = instruction_view l.mid }
-
--- the line of an instruction
-abbrev pub told : ℕ → Mid → Line
-told line m = record { line = line; instruction = instruction_view m }
 
 abbrev pub emits_mid : ℕ → Mid → Making (Unit {0})
 emits_mid line m = emits_code (λ around start. told line m ∷ [])
@@ -105,7 +92,7 @@ Grows c old new = (leads : List Leads) (around : Around) → new leads ≡ grown
 abbrev pub Makes : {A : Type 0} → List Row → Result (Made A) ℕ → A → Emitter → Emitter → Type 0
 Makes rows (Err line) a old new = ⊥
 Makes rows (Ok m) a old new =
-    (m.given ≡ a) × (m.after ≡ allotted_view rows new.allotted) × Grows m.code old.code new.code × AllStand rows new.allotted.types.keys
+    (m.given ≡ a) × (m.after ≡ allotted_view rows new.allotted) × Grows m.code (code_of old.code) (code_of new.code) × AllStand rows new.allotted.types.keys
 
 -- this making is done, or there are too many registers at the line, or want of memory
 unfoldable pub Emits : {A B : Type 0} → (B → A) → List Row → Emitter → Emitter → Result B LowerRefusal → Making A → Type 0

@@ -62,6 +62,12 @@ constant_to line v r = do
 abbrev pub row_at : List LocalRow → ℕ → LocalRow
 row_at rows n = slice_index_or rows n (record { line = 0; first = 0; type = unqualified void; is_placed = false })
 
+abbrev pub constant_in : ℕ → ℕ → ℕ → Making ℕ
+constant_in line k v = temporary k line >>= constant_to line v
+
+abbrev pub zero_for : CType → ℕ → ℕ → Making ℕ
+zero_for t k line = target_for t k line >>= constant_to line 0
+
 -- ---- places
 
 -- where a place is: a local in a register, or memory, through an lvalue that may be volatile, at a line
@@ -223,6 +229,10 @@ joins_first t line r = either (is_object_pointer t) (moved_to_new line r) (pure 
 abbrev pub joins_second : CType → ℕ → ℕ → ℕ → Making ℕ
 joins_second t line d r = either (is_object_pointer t) (moved_to line d r) (pure d)
 
+-- two ways to one register
+abbrev pub chosen : CType → ℕ → Making ℕ → Making ℕ → ℕ → Making ℕ
+chosen t line a b x = two_ways line (mid.JumpZ x) (a >>= joins_first t line) (λ d. b >>= joins_second t line d)
+
 -- ---- what a place holds
 
 -- a place whose register is known: that of a local, or that of its address
@@ -241,8 +251,8 @@ locates (in_memory is_volatile line) at = at_address
   where
     at_address : Making Located
     at_address = do
-      address ← at
-      pure (stored is_volatile line address)
+      pointer ← at
+      pure (stored is_volatile line pointer)
 
 abbrev pub load_of : Located → ℕ → ℕ → ℕ × Mid
 load_of (held home) line d = (line, mid.Move d home)
@@ -365,8 +375,8 @@ module _ (i : Inside) where
 
     -- the value of an expression
     pub value_of : Value → ℕ → Making ℕ
-    value_of (value line t (constant n)) k = temporary k line >>= constant_to line n
-    value_of (value line t null) k = target_for t k line >>= constant_to line 0
+    value_of (value line t (constant n)) k = constant_in line k n
+    value_of (value line t null) k = zero_for t k line
     value_of (value line t (read p)) k = locates (where_is i p) (address_of p k) >>= fetches line t k
     value_of (value line t (first_element p)) k = address_of p k
     value_of (value line t (address p)) k = address_of p k
@@ -384,8 +394,7 @@ module _ (i : Inside) where
         value_of a k >>= (λ x. value_of b (free_behind (type_of a) k) >>= (λ y. compared (type_of a) op line at k x y))
     value_of (value line t (conjunction a b)) k = value_of a k >>= decides false line k (value_of b k)
     value_of (value line t (disjunction a b)) k = value_of a k >>= decides true line k (value_of b k)
-    value_of (value line t (choice e a b)) k =
-        value_of e k >>= (λ x. two_ways line (mid.JumpZ x) (value_of a k >>= joins_first t line) (λ d. value_of b k >>= joins_second t line d))
+    value_of (value line t (choice e a b)) k = value_of e k >>= chosen t line (value_of a k) (value_of b k)
     value_of (value line t (sequence dropped last)) k = dropped_in dropped k >> value_of last k
     value_of (value line t (assignment p e)) k = locates (where_is i p) (address_of p k) >>= (λ l. value_of e k >>= assigned line l)
     value_of (value line t (update is_after p first op at ty e)) k =

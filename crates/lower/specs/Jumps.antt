@@ -2,6 +2,7 @@
 use Rattle.std.specs.Prelude.{◌≡◌, ℕ, List, Option, option_map, Result, Ok, Err}
 use Rattle.mid_code.specs.declared.mid.Mid.{Mid}
 use Rattle.mid_code.specs.declared.mid.Mid.TheVariants as mid
+use Rattle.lower.specs.Drafts.{code_of}
 use Rattle.lower.specs.declared.emitter.Emitter.{Emitter}
 use Rattle.lower.specs.declared.refusal.LowerRefusal.{LowerRefusal}
 use Rattle.lower.specs.declared.refusal.LowerRefusal.TheVariants.{Memory}
@@ -24,8 +25,8 @@ with_jump line m code leads = with_line (at_line line m) (code leads)
 -- a jump waits at this place
 pub record Waiting (line : ℕ) (jump : ℕ → Mid) (old new : Emitter) (at : ℕ) : Type 0 where
   pub allotted : new.allotted ≡ old.allotted
-  pub here : (leads : List Leads) → IsHere at (old.code leads)
-  pub grown : (leads : List Leads) → new.code leads ≡ with_jump line (jump 0) old.code leads
+  pub here : (leads : List Leads) → IsHere at (code_of old.code leads)
+  pub grown : (leads : List Leads) → code_of new.code leads ≡ with_jump line (jump 0) (code_of old.code) leads
 
 abbrev pub Waits : ℕ → (ℕ → Mid) → Emitter → Emitter → Result ℕ LowerRefusal → Type 0
 Waits line jump old new (Ok at) = Waiting line jump old new at
@@ -34,8 +35,8 @@ Waits line jump old new (Err e) = e ≡ Memory
 -- a jump waits at this place, and another one leads behind it
 pub record Turning (line : ℕ) (at : ℕ) (old new : Emitter) (over : ℕ) : Type 0 where
   pub allotted : new.allotted ≡ old.allotted
-  pub here : (leads : List Leads) → IsHere over (old.code leads)
-  pub lands : LandsHere at (with_jump line (mid.Jump 0) old.code) new.code
+  pub here : (leads : List Leads) → IsHere over (code_of old.code leads)
+  pub lands : LandsHere at (with_jump line (mid.Jump 0) (code_of old.code)) (code_of new.code)
 
 abbrev pub Turns : ℕ → ℕ → Emitter → Emitter → Result ℕ LowerRefusal → Type 0
 Turns line at old new (Ok over) = Turning line at old new over

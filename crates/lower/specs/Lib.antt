@@ -10,3 +10,7 @@ pub mod Emits
 pub mod Runs
 pub mod Jumps
 pub mod Drafts
+pub mod Bodies
+pub mod Nodes
+pub mod Functions
+pub mod Instructions

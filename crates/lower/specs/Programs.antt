@@ -18,9 +18,10 @@ use Rattle.source_meaning.specs.Places.{file_of}
 use Rattle.source_meaning.specs.Calls.{numbers_below}
 use Rattle.source_meaning.specs.Start.{objects_at_start}
 use Rattle.source_meaning.specs.Statements.{locals_of}
-use Rattle.lower.specs.Emitting.{Instruction, plain, calls, calls_through, Line, Code, Around, at_line, Allotted, Made, Making, ◌>>=◌, ◌>>◌, pure, emits, emits_code, wrapped, either, new, temporary, kind_of, settles, with_type, place_of_type}
-use Rattle.lower.specs.Expressions.{Inside, row_at, number_of}
-use Rattle.lower.specs.Statements.{closes, living, all_begin, in_block, lowers_items}
+use Rattle.lower.specs.Emitting.{Instruction, plain, calls, calls_through, Line, Code, Around, at_line, Allotted, Made, Making, ◌>>=◌, ◌>>◌, pure, emits, emits_code, wrapped, either, new, temporary, target_for, kind_of, settles, with_type, type_number}
+use Rattle.lower.specs.SoFar.{most_instructions}
+use Rattle.lower.specs.Expressions.{Inside, row_at, number_of, zero_for}
+use Rattle.lower.specs.Statements.{closes, living, opens, all_begin, in_block, lowers_items}
 use Rattle.lower.specs.declared.refusal.LowerRefusal.{LowerRefusal}
 use Rattle.lower.specs.declared.refusal.LowerRefusal.TheVariants.{TooManyRegisters, TooLong}
 
@@ -37,57 +38,64 @@ with_parameters rows parameters c around start =
     let begun = parameters_at rows start parameters in
     c (record around { in_loop = begun ++ around.in_loop; in_function = begun ++ around.in_function }) start
 
+-- ---- the end of a function
+
+-- the objects that live end, and 0 is returned
+abbrev pub leaves_at : ℕ → CType → Making (Unit {0})
+leaves_at line result = do
+  emits_code (λ around start. closes line around.in_function)
+  r ← zero_for result 0 line
+  emits line (mid.Return r)
+
+abbrev pub exits_at : ℕ → Making (Unit {0})
+exits_at line = do
+  r ← temporary 0 line
+  emits line (mid.Const r 0)
+  emits line (mid.Exit r)
+
+-- ---- its parts
+
 module _ (i : Inside) where
   -- the arguments stand in the first registers
-  abbrev pub arguments_stand : List ℕ → Making (Unit {0})
-  arguments_stand [] = pure tt
-  arguments_stand (n ∷ rest) = do
+  abbrev pub argument_stands : ℕ → Making (Unit {0})
+  argument_stands n = do
     r ← new (kind_of (row_at i.rows n).type.type) (row_at i.rows n).line
     settles n r
-    arguments_stand rest
+
+  abbrev pub arguments_stand : List ℕ → Making (Unit {0})
+  arguments_stand [] = pure tt
+  arguments_stand (n ∷ rest) = argument_stands n >> arguments_stand rest
 
   -- a parameter in memory is an object that takes its argument
+  abbrev pub parameter_opens : LocalRow → ℕ → Making (Unit {0})
+  parameter_opens row n = do
+    r ← opens row.line n 1
+    emits row.line (mid.Store r n)
+
+  abbrev pub parameter_begins : ℕ → Making (Unit {0})
+  parameter_begins n = either (row_at i.rows n).is_placed (parameter_opens (row_at i.rows n) n) (pure tt)
+
   abbrev pub parameters_begin : List ℕ → Making (Unit {0})
   parameters_begin [] = pure tt
-  parameters_begin (n ∷ rest) = either (row_at i.rows n).is_placed object (pure tt) >> parameters_begin rest
-    where
-      object : Making (Unit {0})
-      object = do
-        r ← new Address (row_at i.rows n).line
-        emits (row_at i.rows n).line (mid.Open r 1)
-        emits (row_at i.rows n).line (mid.Store r n)
-        settles n r
+  parameters_begin (n ∷ rest) = parameter_begins n >> parameters_begin rest
 
-  abbrev pub zero_in : ℕ → CType → Making ℕ
-  zero_in line t = do
-    r ← either (is_object_pointer t) (new Address line) (temporary 0 line)
-    emits line (mid.Const r 0)
-    pure r
-
-  -- the objects of the parameters end, and 0 is returned
-  abbrev pub leaves : Function → Making (Unit {0})
-  leaves f = do
-    emits_code (λ around start. closes f.end (parameters_at i.rows 0 (numbers_below f.parameters)))
-    r ← zero_in f.end (result_of f.type)
-    emits f.end (mid.Return r)
-
-  -- `main` is left by `exit`, which ends no object
-  abbrev pub exits : Function → Making (Unit {0})
-  exits f = do
-    r ← temporary 0 f.end
-    emits f.end (mid.Const r 0)
-    emits f.end (mid.Exit r)
-
-  abbrev pub body_of : Function → Making (Unit {0})
-  body_of f = either i.is_main (begun >> exits f) (in_block i (locals_of f.body) f.end (lowers_items i f.body) >> leaves f)
+  -- `main`: it is left by `exit`, which ends no object
+  abbrev pub main_body : Function → Making (Unit {0})
+  main_body f = begun >> exits_at f.end
     where
       begun : Making (Unit {0})
       begun = wrapped (living i.rows (locals_of f.body)) (all_begin i (locals_of f.body) >> lowers_items i f.body)
 
+  abbrev pub body_of : Function → Making (Unit {0})
+  body_of f =
+      either i.is_main (main_body f) (in_block i (locals_of f.body) f.end (lowers_items i f.body) >> leaves_at f.end (result_of f.type))
+
+  -- parameters live as long as the function
+  abbrev pub with_body : Function → Making (Unit {0})
+  with_body f = wrapped (with_parameters i.rows (numbers_below f.parameters)) (parameters_begin (numbers_below f.parameters) >> body_of f)
+
   abbrev pub function_code : Function → Making (Unit {0})
-  function_code f = do
-    arguments_stand (numbers_below f.parameters)
-    wrapped (with_parameters i.rows (numbers_below f.parameters)) (parameters_begin (numbers_below f.parameters) >> body_of f)
+  function_code f = arguments_stand (numbers_below f.parameters) >> with_body f
 
 -- what a function is lowered to
 pub record Lowered : Type 0 where
@@ -102,24 +110,31 @@ inside_of program part f = record { program = program; part = part; rows = f.loc
 abbrev pub nowhere : Around
 nowhere = record { break_at = 0; continue_at = 0; in_loop = []; in_function = [] }
 
--- a function has at most 65,535 instructions
-abbrev pub most_instructions : ℕ
-most_instructions = 65535
-
 abbrev pub all_types : List CType → List Function → List CType
 all_types types [] = types
 all_types types (f ∷ rest) = all_types (with_type f.type types) rest
 
+-- the number of its type, and its code
+abbrev pub typed_code : Inside → Function → Making ℕ
+typed_code i f = do
+  n ← type_number f.type
+  function_code i f
+  pure n
+
+abbrev pub nothing_allotted : ℕ → List CType → Allotted
+nothing_allotted locals types = record { kinds = []; temporaries = []; homes = replicate locals 0; types = types }
+
+abbrev pub if_short : Function → ℕ → Allotted → List Line → Bool → Result (Lowered × List CType) LowerRefusal
+if_short f type after code true = Err (TooLong f.line)
+if_short f type after code false = Ok (record { type = type; kinds = after.kinds; line = f.line; code = code }, after.types)
+
+-- too many registers come before too much code
+abbrev pub finished : Function → Result (Made ℕ) ℕ → Result (Lowered × List CType) LowerRefusal
+finished f (Err line) = Err (TooManyRegisters line)
+finished f (Ok m) = let code = m.code nowhere 0 in if_short f m.given m.after code (nat_lt most_instructions (length code))
+
 abbrev pub lowered_function : Program → Part → Function → List CType → Result (Lowered × List CType) LowerRefusal
-lowered_function program part f types =
-    finished (function_code (inside_of program part f) f (record { kinds = []; temporaries = []; homes = replicate (length f.locals) 0; types = types }))
-  where
-    if_short : List Line → Allotted → Bool → Result (Lowered × List CType) LowerRefusal
-    if_short code after true = Err (TooLong f.line)
-    if_short code after false = Ok (record { type = place_of_type f.type 0 types; kinds = after.kinds; line = f.line; code = code }, after.types)
-    finished : Result (Made (Unit {0})) ℕ → Result (Lowered × List CType) LowerRefusal
-    finished (Err line) = Err (TooManyRegisters line)
-    finished (Ok m) = let code = m.code nowhere 0 in if_short code m.after (nat_lt most_instructions (length code))
+lowered_function program part f types = finished f (typed_code (inside_of program part f) f (nothing_allotted (length f.locals) types))
 
 -- functions in order: the first that is refused decides
 abbrev pub and_others : Result (Lowered × List CType) LowerRefusal → (List CType → Result (List Lowered × List CType) LowerRefusal)
@@ -161,29 +176,31 @@ pub record LoweredProgram : Type 0 where
   pub binary_statics : List StartingObject
   pub functions : List Lowered
 
-abbrev pub lowered : Program → Result LoweredProgram LowerRefusal
-lowered program = in_main (lowered_functions program Protected main types)
-  where
-    main : List Function
-    main = program.main_file.functions
-    binary : List Function
-    binary = program.binary_file.functions
-    types : List CType
-    types = all_types (all_types [] main) binary
-    whole : List Lowered → Result (List Lowered × List CType) LowerRefusal → Result LoweredProgram LowerRefusal
-    whole first (Err refusal) = Err refusal
-    whole first (Ok others) =
-        Ok (record {
-          types = map type_of_function others.1;
-          main_functions = length main;
-          main = number_of program program.main;
-          main_statics = map shortened (objects_at_start program Protected);
-          binary_statics = map shortened (objects_at_start program Binary);
-          functions = first ++ others.0;
-        })
-    in_main : Result (List Lowered × List CType) LowerRefusal → Result LoweredProgram LowerRefusal
-    in_main (Err refusal) = Err refusal
-    in_main (Ok first) = whole first.0 (lowered_functions program Binary binary first.1)
+-- the types of functions: those of the functions in order, each once; calls may need others
+abbrev pub types_of_program : Program → List CType
+types_of_program program = all_types (all_types [] program.main_file.functions) program.binary_file.functions
+
+abbrev pub program_of : Program → List Lowered → List Lowered → List CType → LoweredProgram
+program_of program first others types = record {
+  types = map type_of_function types;
+  main_functions = length program.main_file.functions;
+  main = number_of program program.main;
+  main_statics = map shortened (objects_at_start program Protected);
+  binary_statics = map shortened (objects_at_start program Binary);
+  functions = first ++ others;
+}
+
+abbrev pub with_others : Program → List Lowered → Result (List Lowered × List CType) LowerRefusal → Result LoweredProgram LowerRefusal
+with_others program first (Err refusal) = Err refusal
+with_others program first (Ok others) = Ok (program_of program first others.0 others.1)
+
+abbrev pub with_first : Program → Result (List Lowered × List CType) LowerRefusal → Result LoweredProgram LowerRefusal
+with_first program (Err refusal) = Err refusal
+with_first program (Ok first) = with_others program first.0 (lowered_functions program Binary program.binary_file.functions first.1)
+
+-- the main file first, then the binary file
+unfoldable pub lowered : Program → Result LoweredProgram LowerRefusal
+lowered program = with_first program (lowered_functions program Protected program.main_file.functions (types_of_program program))
 
 -- ---- middle code that is what was lowered
 

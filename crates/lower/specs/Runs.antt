@@ -2,12 +2,13 @@
 -- loops that are open, and which objects end depends on those that live.
 use Rattle.std.specs.Prelude.{◌≡◌, ℕ, List, [], ◌∷◌, ◌++◌, length, reverse, Option, Some, None, Result, Ok, Err, ⊤}
 use Rattle.c_types.specs.declared.type_ref.Row.{Row}
+use Rattle.lower.specs.Drafts.{code_of}
 use Rattle.lower.specs.declared.body.Body.{Body}
 use Rattle.lower.specs.declared.refusal.LowerRefusal.{LowerRefusal}
 use Rattle.lower.specs.declared.refusal.LowerRefusal.TheVariants.{TooManyRegisters, TooLong, Memory}
 use Rattle.lower.specs.Emitting.{Code, Around, Made, Making}
 use Rattle.lower.specs.SoFar.{Leads, leads_of, Lines, SoFar, grown}
-use Rattle.lower.specs.Emits.{allotted_view, AllStand}
+use Rattle.lower.specs.Emits.{allotted_view, AllStand, Grows}
 
 -- what stands around: the objects that live are listed the newest first
 abbrev pub around_of : Body → List Leads → Around
@@ -24,7 +25,7 @@ pub record SameObjects (old new : Body) : Type 0 where
   pub outside : new.outside.items ≡ old.outside.items
 
 abbrev pub GrowsAround : Code → Body → Body → Type 0
-GrowsAround c old new = (leads : List Leads) → new.out.code leads ≡ grown (around_of old leads) c (old.out.code leads)
+GrowsAround c old new = (leads : List Leads) → code_of new.out.code leads ≡ grown (around_of old leads) c (code_of old.out.code leads)
 
 abbrev pub MakesAround : {A : Type 0} → List Row → Result (Made A) ℕ → A → Body → Body → Type 0
 MakesAround rows (Err line) a old new = ⊥
@@ -51,17 +52,19 @@ pub record MoreObjects (begun : ℕ → List ℕ) (old new : Body) : Type 0 wher
   pub opened : List ℕ
   pub objects : new.objects.items ≡ old.objects.items ++ opened
   pub outside : new.outside.items ≡ old.outside.items
-  pub began : (leads : List Leads) → BeganAt begun opened (old.out.code leads) (new.out.code leads)
+  pub began : (leads : List Leads) → BeganAt begun opened (code_of old.out.code leads) (code_of new.out.code leads)
 
-abbrev pub Opens : {A : Type 0} → List Row → (ℕ → List ℕ) → Result (Made A) ℕ → Body → Body → Type 0
-Opens rows begun (Err line) old new = ⊥
-Opens rows begun (Ok m) old new =
-    (m.after ≡ allotted_view rows new.out.allotted) × MoreObjects begun old new
-    × ((leads : List Leads) (around : Around) → new.out.code leads ≡ grown around m.code (old.out.code leads)) × AllStand rows new.out.allotted.types.keys
+abbrev pub Opens : {A : Type 0} → List Row → (ℕ → List ℕ) → Result (Made A) ℕ → A → Body → Body → Type 0
+Opens rows begun (Err line) a old new = ⊥
+Opens rows begun (Ok m) a old new =
+    (m.given ≡ a) × (m.after ≡ allotted_view rows new.out.allotted) × MoreObjects begun old new × Grows m.code (code_of old.out.code) (code_of new.out.code)
+    × AllStand rows new.out.allotted.types.keys
 
 -- objects begin, which live from then on: where the code starts, `begun` lists the places that begin them, the newest first
-unfoldable pub Begins : List Row → (ℕ → List ℕ) → Body → Body → Result ⊤ LowerRefusal → Making (Unit {0}) → Type 0
-Begins rows begun old new (Ok x) m = AllStand rows old.out.allotted.types.keys → Opens rows begun (m (allotted_view rows old.out.allotted)) old new
-Begins rows begun old new (Err (TooManyRegisters line)) m = AllStand rows old.out.allotted.types.keys → m (allotted_view rows old.out.allotted) ≡ Err line
-Begins rows begun old new (Err (TooLong line)) m = ⊥
-Begins rows begun old new (Err Memory) m = ⊤
+unfoldable pub Begins : {A B : Type 0} → (B → A) → List Row → (ℕ → List ℕ) → Body → Body → Result B LowerRefusal → Making A → Type 0
+Begins view rows begun old new (Ok x) m =
+    AllStand rows old.out.allotted.types.keys → Opens rows begun (m (allotted_view rows old.out.allotted)) (view x) old new
+Begins view rows begun old new (Err (TooManyRegisters line)) m =
+    AllStand rows old.out.allotted.types.keys → m (allotted_view rows old.out.allotted) ≡ Err line
+Begins view rows begun old new (Err (TooLong line)) m = ⊥
+Begins view rows begun old new (Err Memory) m = ⊤

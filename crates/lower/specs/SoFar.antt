@@ -2,7 +2,7 @@
 --
 -- The places to which `break` and `continue` of the loops that are open lead are not known yet: the code is a function of
 -- them. Code that is too long is forgotten.
-use Rattle.std.specs.Prelude.{◌≡◌, ◌≤◌, ℕ, zero, suc, nat_lt, if◌then◌else◌, List, [], ◌∷◌, ◌++◌, length, map, Option, Some, None, option_map, ⊤}
+use Rattle.std.specs.Prelude.{◌≡◌, ◌≤◌, ℕ, zero, suc, nat_lt, Bool, true, false, List, [], ◌∷◌, ◌++◌, length, map, Option, Some, None, option_map, ⊤}
 use Rattle.mid_code.specs.declared.mid.Mid.TheVariants as mid
 use Rattle.lower.specs.Emitting.{Instruction, plain, Line, at_line, Code, Around}
 
@@ -37,9 +37,13 @@ Lines = Option (List Line)
 abbrev pub SoFar : Type 0
 SoFar = List Leads → Lines
 
+abbrev pub if_room : Line → List Line → Bool → Lines
+if_room l ls true = Some (ls ++ l ∷ [])
+if_room l ls false = None
+
 unfoldable pub with_line : Line → Lines → Lines
 with_line l None = None
-with_line l (Some ls) = if nat_lt (length ls) most_instructions then Some (ls ++ l ∷ []) else None
+with_line l (Some ls) = if_room l ls (nat_lt (length ls) most_instructions)
 
 abbrev pub added : List Line → Lines → Lines
 added [] s = s

@@ -33,12 +33,41 @@ closes line (opened ∷ rest) = at_line line (mid.Close opened) ∷ closes line 
 abbrev pub closed_behind : List LocalRow → List ℕ → ℕ → Code → Code
 closed_behind rows locals line c around start = c around start ++ closes line (begun_at rows start locals)
 
+-- ---- parts that depend on nothing
+
+-- one register goes from cell to cell: from the first to the one of an index
+abbrev pub to_cell : LocalRow → ℕ → ℕ → Making (Unit {0})
+to_cell row at zero = pure tt
+to_cell row at (suc before) = moved
+  where
+    moved : Making (Unit {0})
+    moved = do
+      index ← temporary 0 row.line
+      emits row.first (mid.Const index (suc before))
+      emits row.line (mid.PtrAdd at at index UInt false 1)
+
+-- the instruction that gives a local in memory its value
+abbrev pub storing : LocalRow → ℕ → ℕ → Mid
+storing row at x = if row.type.qualifiers.is_volatile then mid.VStore at x else mid.Store at x
+
+-- the objects of the blocks that are left end, and the jump follows
+abbrev pub breaks : ℕ → Code
+breaks line around start = closes line around.in_loop ++ at_line line (mid.Jump around.break_at) ∷ []
+
+abbrev pub continues : ℕ → Code
+continues line around start = closes line around.in_loop ++ at_line line (mid.Jump around.continue_at) ∷ []
+
+-- an object of so many cells begins, and a local has its address
+abbrev pub opens : ℕ → ℕ → ℕ → Making ℕ
+opens line n count = do
+  r ← new Address line
+  settles n r
+  emits line (mid.Open r count)
+  pure r
+
 module _ (i : Inside) where
   abbrev pub begins_in_memory : LocalRow → ℕ → Making (Unit {0})
-  begins_in_memory row n = do
-    r ← new Address row.line
-    settles n r
-    emits row.line (mid.Open r (cells_of row.type.type))
+  begins_in_memory row n = opens row.line n (cells_of row.type.type) >> pure tt
 
   abbrev pub begins_in_register : LocalRow → ℕ → Making (Unit {0})
   begins_in_register row n = do
@@ -61,17 +90,6 @@ module _ (i : Inside) where
 
   -- ---- initializers
 
-  -- one register goes from cell to cell: from the first to the one of an index
-  abbrev pub to_cell : LocalRow → ℕ → ℕ → Making (Unit {0})
-  to_cell row at zero = pure tt
-  to_cell row at (suc before) = moved
-    where
-      moved : Making (Unit {0})
-      moved = do
-        index ← temporary 0 row.line
-        emits row.first (mid.Const index (suc before))
-        emits row.line (mid.PtrAdd at at index UInt false 1)
-
   abbrev pub cell_given : LocalRow → ℕ → ℕ → Cell → Making (Unit {0})
   cell_given row home at c = do
     emits row.first (mid.Move at home)
@@ -82,10 +100,6 @@ module _ (i : Inside) where
   abbrev pub cells_given : LocalRow → ℕ → ℕ → List Cell → Making (Unit {0})
   cells_given row home at [] = pure tt
   cells_given row home at (c ∷ rest) = cell_given row home at c >> cells_given row home at rest
-
-  -- the instruction that gives a local in memory its value
-  abbrev pub storing : LocalRow → ℕ → ℕ → Mid
-  storing row at x = if row.type.qualifiers.is_volatile then mid.VStore at x else mid.Store at x
 
   abbrev pub in_memory_given : LocalRow → ℕ → Value → Making (Unit {0})
   in_memory_given row n e = do
@@ -169,13 +183,6 @@ module _ (i : Inside) where
 
   -- ---- jumps
 
-  -- the objects of the blocks that are left end, and the jump follows
-  abbrev pub breaks : ℕ → Code
-  breaks line around start = closes line around.in_loop ++ at_line line (mid.Jump around.break_at) ∷ []
-
-  abbrev pub continues : ℕ → Code
-  continues line around start = closes line around.in_loop ++ at_line line (mid.Jump around.continue_at) ∷ []
-
   -- `main` is left by `exit`, which ends no object
   abbrev pub returns : ℕ → ℕ → Code
   returns line r around start = if i.is_main then at_line line (mid.Exit r) ∷ [] else closes line around.in_function ++ at_line line (mid.Return r) ∷ []
@@ -186,6 +193,10 @@ module _ (i : Inside) where
     r ← temporary 0 line
     emits line (mid.Const r 0)
     pure r
+
+  -- a `for` with locals, which live as long as the loop
+  abbrev pub looped_with : List LocalItem → ℕ → Option Value → Making (Unit {0}) → Option Value → Making (Unit {0})
+  looped_with locals line e body step = in_block (numbers_of locals) line (all_initialize locals >> looped line e body step)
 
   -- ---- statements
 
@@ -199,8 +210,7 @@ module _ (i : Inside) where
     lowers (while line e a) = looped line (Some e) (lowers a) None
     lowers (do_while line a e) = do_looped line (lowers a) e
     lowers (for line (starts first) e step a) = done first >> looped line e (lowers a) step
-    lowers (for line (declares locals) e step a) =
-        in_block (numbers_of locals) line (all_initialize locals >> looped line e (lowers a) step)
+    lowers (for line (declares locals) e step a) = looped_with locals line e (lowers a) step
     lowers (continue line) = emits_code (continues line)
     lowers (break line) = emits_code (breaks line)
     lowers (return line e) = value_or_zero line e >>= (λ r. emits_code (returns line r))

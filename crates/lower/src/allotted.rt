@@ -1,4 +1,4 @@
-ghost use Rattle.std.specs.Prelude.{◌≡◌, slice_index, slice_set, replicate, List, [], OnOk};
+ghost use Rattle.std.specs.Prelude.{◌≡◌, slice_index, slice_set, replicate, List, [], IfOk};
 ghost use Rattle.c_types.specs.declared.type_ref.Row.{Row};
 ghost use Rattle.c_types.specs.Types.{CType};
 ghost use Rattle.c_types.specs.Table.{type_at};
@@ -30,7 +30,12 @@ impl Allotted {
         alloc: Global,
         locals: usize,
         types: IndexSet<TypeRef>,
-    ) -> Result<Self, AllocError> {
+    ) -> Result<Self, AllocError>
+        ensures kinds { IfOk result (λ a. a.kinds.items ≡ []) }
+        ensures temporaries { IfOk result (λ a. a.temporaries.items ≡ []) }
+        ensures homes { IfOk result (λ a. a.homes.items ≡ replicate locals 0) }
+        ensures types { IfOk result (λ a. a.types.keys ≡ types.keys) }
+    {
         Ok(Allotted {
             kinds: Vec::new(alloc),
             temporaries: Vec::new(alloc),
@@ -72,7 +77,10 @@ impl Allotted {
 
     /// A local gets its register.
     pub(crate) fn settle(&mut self, number: usize, register: u16)
-        ensures { self.new ≡ record self.old { homes = record self.old.homes { items = slice_set self.old.homes.items number register } } }
+        ensures homes { self.new.homes.items ≡ slice_set self.old.homes.items number register }
+        ensures kinds { self.new.kinds.items ≡ self.old.kinds.items }
+        ensures temporaries { self.new.temporaries.items ≡ self.old.temporaries.items }
+        ensures types { self.new.types.keys ≡ self.old.types.keys }
     {
         if let Some(home) = self.homes.get_mut(number) {
             *home = register;
@@ -80,8 +88,13 @@ impl Allotted {
     }
 
     /// The number of a type of functions, the first time the next one.
-    pub(crate) fn type_number(&mut self, types: &Types, of: TypeRef) -> Result<u16, AllocError> {
+    pub(crate) fn type_number(&mut self, types: &Types, of: TypeRef) -> Result<u16, LowerRefusal>
+        ensures { Allots itself types.now self.old self.new result (type_number_of (type_at types.now of)) }
+    {
         let (number, _) = self.types.insert_full(types.reference(of))?;
+        if number > 65_535 {
+            return Err(LowerRefusal::Memory);
+        }
         Ok(number as u16)
     }
 }

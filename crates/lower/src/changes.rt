@@ -1,6 +1,5 @@
 ghost use Rattle.std.specs.Prelude.{◌≡◌, ℕ, suc, if◌then◌else◌, List};
 ghost use Rattle.c_types.specs.declared.type_ref.Row.{Row};
-ghost use Rattle.lower.specs.Emitting.{◌>>=◌};
 ghost use Rattle.lower.specs.Expressions.{changing_integer, changing_pointer, widened, changed_to, integer_changed, pointer_changed};
 ghost use Rattle.lower.specs.Emits.{Emits, itself, rows_of, types_of, located_view, change_view};
 

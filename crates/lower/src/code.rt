@@ -1,9 +1,9 @@
-ghost use Rattle.std.specs.Prelude.{◌≡◌, ℕ, ◌∷◌, List, [], Some, None, option_map, OnOk};
+ghost use Rattle.std.specs.Prelude.{◌≡◌, ℕ, ◌∷◌, List, [], Some, None, option_map, OnOk, IfOk};
 ghost use Rattle.mid_code.specs.declared.mid.Mid.TheVariants as mid_of;
 ghost use Rattle.lower.specs.Emitting.{at_line};
 ghost use Rattle.lower.specs.SoFar.{Leads, leads_of, with_line, landed, leading_to, IsHere};
-ghost use Rattle.lower.specs.Emits.{told, instruction_view};
-ghost use Rattle.lower.specs.Drafts.{leads_by, TakesLines};
+ghost use Rattle.lower.specs.Instructions.{told, instruction_view};
+ghost use Rattle.lower.specs.Drafts.{code_of, TakesLines};
 
 use mid_code::{Mid, MidLine};
 use std::alloc::{AllocError, Global};
@@ -58,19 +58,14 @@ pub(crate) struct Code {
 }
 
 impl Model for Code {
-    ghost use Rattle.std.specs.Prelude.{◌×◌, ◌≤◌, length, All, IsTrue};
-    ghost use Rattle.lower.specs.SoFar.{SoFar, most_instructions};
-    ghost use Rattle.lower.specs.Drafts.{code_view, AreOpen, IsBelow};
+    ghost use Rattle.lower.specs.Drafts.{Held, IsHeld};
 
-    ghost Value = { SoFar };
+    ghost Value = { Held };
 
-    ghost view = { λ c. code_view c.is_long c.loops.items c.current c.outer.items c.drafts.items };
+    ghost view = { λ c. record { is_long = c.is_long; loops = c.loops.items; current = c.current; outer = c.outer.items; drafts = c.drafts.items } };
 
     ghost invariant = { λ c.
-        (length c.drafts.items ≤ most_instructions)
-        × (IsTrue c.is_long → length c.drafts.items ≡ most_instructions)
-        × All (IsBelow (length c.loops.items)) c.drafts.items
-        × AreOpen c.loops.items (length c.loops.items) c.current c.outer.items };
+        IsHeld (record { is_long = c.is_long; loops = c.loops.items; current = c.current; outer = c.outer.items; drafts = c.drafts.items }) };
 }
 
 /// The same instruction with another place, where it is a jump.
@@ -88,7 +83,7 @@ fn led(mid: Mid, place: u32) -> Mid
 impl Code {
     /// No instruction.
     pub(crate) fn new(alloc: Global) -> Result<Self, AllocError>
-        ensures { OnOk result (λ code. (leads : List Leads) → code leads ≡ Some []) }
+        ensures { IfOk result (λ code. (leads : List Leads) → code_of code leads ≡ Some []) }
     {
         let mut loops = Vec::new(alloc);
         loops.push(UNKNOWN)?;
@@ -103,7 +98,7 @@ impl Code {
 
     /// The place of the next instruction, which is 65,536 where the code is too long.
     pub(crate) fn here(&self) -> u32
-        ensures { (leads : List Leads) → IsHere result (self.now leads) }
+        ensures { (leads : List Leads) → IsHere result (code_of self.now leads) }
     {
         if self.is_long {
             MOST_INSTRUCTIONS as u32 + 1
@@ -124,7 +119,7 @@ impl Code {
 
     /// An instruction more.
     pub(crate) fn emit(&mut self, line: u32, mid: Mid) -> Result<(), AllocError>
-        ensures { OnOk result ((leads : List Leads) → self.new leads ≡ with_line (told line mid) (self.old leads)) }
+        ensures { OnOk result ((leads : List Leads) → code_of self.new leads ≡ with_line (told line mid) (code_of self.old leads)) }
     {
         self.draft(Draft {
             line,
@@ -135,7 +130,7 @@ impl Code {
 
     /// A jump behind the innermost loop.
     pub(crate) fn emit_break(&mut self, line: u32) -> Result<(), AllocError>
-        ensures { OnOk result ((leads : List Leads) → self.new leads ≡ with_line (at_line line (mid_of.Jump (leads_of leads).break_at)) (self.old leads)) }
+        ensures { OnOk result ((leads : List Leads) → code_of self.new leads ≡ with_line (at_line line (mid_of.Jump (leads_of leads).break_at)) (code_of self.old leads)) }
     {
         self.draft(Draft {
             line,
@@ -146,7 +141,7 @@ impl Code {
 
     /// A jump to the next round of the innermost loop.
     pub(crate) fn emit_continue(&mut self, line: u32) -> Result<(), AllocError>
-        ensures { OnOk result ((leads : List Leads) → self.new leads ≡ with_line (at_line line (mid_of.Jump (leads_of leads).continue_at)) (self.old leads)) }
+        ensures { OnOk result ((leads : List Leads) → code_of self.new leads ≡ with_line (at_line line (mid_of.Jump (leads_of leads).continue_at)) (code_of self.old leads)) }
     {
         self.draft(Draft {
             line,
@@ -157,7 +152,7 @@ impl Code {
 
     /// The jump at a place leads to another one.
     pub(crate) fn lead(&mut self, at: u32, place: u32)
-        ensures { (leads : List Leads) → self.new leads ≡ option_map (landed at place) (self.old leads) }
+        ensures { (leads : List Leads) → code_of self.new leads ≡ option_map (landed at place) (code_of self.old leads) }
     {
         if let Some(draft) = self.drafts.get_mut(at as usize) {
             draft.mid = led(draft.mid, place);
@@ -167,7 +162,7 @@ impl Code {
 
     /// A loop begins. The code so far has none of its jumps.
     pub(crate) fn begin_loop(&mut self) -> Result<(), AllocError>
-        ensures { OnOk result ((l : Leads) (leads : List Leads) → self.new (l ∷ leads) ≡ self.old leads) }
+        ensures { OnOk result ((l : Leads) (leads : List Leads) → code_of self.new (l ∷ leads) ≡ code_of self.old leads) }
     {
         let number = self.loops.len();
         self.loops.push(UNKNOWN)?;
@@ -179,7 +174,7 @@ impl Code {
     pub(crate) fn end_loop(&mut self, break_at: u32, continue_at: u32) -> Result<(), AllocError>
         ensures {
             OnOk result
-                ((leads : List Leads) → self.new leads ≡ self.old (record { break_at = break_at; continue_at = continue_at } ∷ leads))
+                ((leads : List Leads) → code_of self.new leads ≡ code_of self.old (record { break_at = break_at; continue_at = continue_at } ∷ leads))
         }
     {
         if let Some(places) = self.loops.get_mut(self.current) {
@@ -202,7 +197,7 @@ impl Code {
 
     /// The instructions, or `None` where they are too many.
     pub(crate) fn into_lines(self, alloc: Global) -> Result<Option<Vec<MidLine>>, AllocError>
-        ensures { OnOk result (TakesLines (self [])) }
+        ensures { IfOk result (TakesLines (code_of self [])) }
     {
         if self.is_long {
             return Ok(None);

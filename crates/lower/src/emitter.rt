@@ -4,6 +4,7 @@ ghost use Rattle.c_types.specs.declared.type_ref.Row.{Row};
 ghost use Rattle.c_types.specs.Types.{CType, ty_of};
 ghost use Rattle.c_types.specs.Table.{type_at};
 ghost use Rattle.mid_code.specs.declared.program.RegisterKind.TheVariants as kind_is;
+ghost use Rattle.lower.specs.Drafts.{code_of};
 ghost use Rattle.lower.specs.Emitting.{new as new_register, temporary as temporary_of, home_of, settles};
 ghost use Rattle.lower.specs.Expressions.{constant_to, converts, computed as computed_by};
 ghost use Rattle.lower.specs.SoFar.{Leads, IsHere, landed};
@@ -49,7 +50,7 @@ impl Emitter {
 
     /// The place of the next instruction.
     pub(crate) fn here(&self) -> u32
-        ensures { (leads : List Leads) → IsHere result (self.now.code leads) }
+        ensures { (leads : List Leads) → IsHere result (code_of self.now.code leads) }
     {
         self.code.here()
     }
@@ -57,7 +58,7 @@ impl Emitter {
     /// The jump at a place leads here.
     pub(crate) fn lead_here(&mut self, at: u32)
         ensures allotted { self.new.allotted ≡ self.old.allotted }
-        ensures led { LandsHere at self.old.code self.new.code }
+        ensures led { LandsHere at (code_of self.old.code) (code_of self.new.code) }
     {
         let place = self.code.here();
         self.code.lead(at, place);

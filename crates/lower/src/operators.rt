@@ -1,8 +1,8 @@
 ghost use Rattle.std.specs.Prelude.{◌≡◌, ℕ, List};
 ghost use Rattle.srmt_base.specs.declared.op.Op.TheVariants as op_is;
 ghost use Rattle.c_types.specs.declared.type_ref.Row.{Row};
-ghost use Rattle.lower.specs.Emitting.{◌>>=◌, temporary, target_for as target_of_type};
-ghost use Rattle.lower.specs.Expressions.{constant_to, converts, converted as converted_to, computed, minus_of, complement_of, compared_with_null, compared_with_zero, negated as negated_by, truth_of, pointers_subtracted, pointers_compared, compared as compared_by, function_in, pointer_moved, moves_pointer};
+ghost use Rattle.lower.specs.Emitting.{target_for as target_of_type};
+ghost use Rattle.lower.specs.Expressions.{constant_to, constant_in, zero_for, converts, converted as converted_to, computed, minus_of, complement_of, compared_with_null, compared_with_zero, negated as negated_by, truth_of, pointers_subtracted, pointers_compared, compared as compared_by, function_in, pointer_moved, moves_pointer};
 ghost use Rattle.lower.specs.Emits.{Emits, itself, nothing, rows_of, types_of};
 
 use crate::emitter::Emitter;
@@ -43,7 +43,7 @@ impl Emitter {
         k: usize,
         line: u32,
     ) -> Result<u16, LowerRefusal>
-        ensures { (rows : List Row) → Emits itself rows self.old self.new result (temporary k line >>= constant_to line value) }
+        ensures { (rows : List Row) → Emits itself rows self.old self.new result (constant_in line k value) }
     {
         let target = self.temporary(k, line)?;
         self.set(target, value, line)
@@ -76,7 +76,7 @@ impl Emitter {
     ) -> Result<u16, LowerRefusal>
         ensures {
             Emits itself (rows_of at.entry) self.old self.new result
-                (target_of_type (types_of at.entry of) k line >>= constant_to line 0)
+                (zero_for (types_of at.entry of) k line)
         }
     {
         let target = self.target_for(at, of, k, line)?;

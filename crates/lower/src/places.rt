@@ -1,7 +1,6 @@
 ghost use Rattle.std.specs.Prelude.{◌≡◌, ℕ, List};
 ghost use Rattle.c_types.specs.declared.type_ref.Row.{Row};
 ghost use Rattle.mid_code.specs.declared.mid.Mid.TheVariants as mid_of;
-ghost use Rattle.lower.specs.Emitting.{◌>>=◌};
 ghost use Rattle.lower.specs.Expressions.{load_of as load_from, store_of as store_to, fetches, puts, assigned, object_in, local_in};
 ghost use Rattle.lower.specs.Emits.{Emits, itself, nothing, rows_of, types_of, located_view};
 

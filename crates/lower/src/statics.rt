@@ -1,27 +1,55 @@
-use crate::inside::{cells, file_of, number_of, number_of_text};
-use c_typed::{Start, StartCell, Static as TypedStatic, TextObject, TypedProgram};
+ghost use Rattle.std.specs.Prelude.{◌≡◌, replicate, slice_set, map, IfOk, IfErr};
+ghost use Rattle.c_types.specs.Table.{type_at};
+ghost use Rattle.c_typed.specs.StatementViews.{program_view, static_view};
+ghost use Rattle.srmt_base.specs.Convert.{convert_of};
+ghost use Rattle.srmt_base.specs.declared.ty.Ty.TheVariants.{Char, UChar};
+ghost use Rattle.source_meaning.specs.Places.{value_of_entity as entity_of};
+ghost use Rattle.source_meaning.specs.Start as meaning;
+ghost use Rattle.lower.specs.Programs.{shortened, without_zeros};
+ghost use Rattle.lower.specs.declared.refusal.LowerRefusal.TheVariants.{Memory};
+
+use crate::inside::{cells, file_of, number_of_text};
+use crate::refusal::LowerRefusal;
+use c_typed::{Numbered, Start, StartCell, Static as TypedStatic, TextObject, TypedProgram};
 use c_types::{Shape, TypeRef, Types};
 use sqlite_items::Items;
 use srmt_base::{Part, Static, Ty, convert};
 use std::alloc::{AllocError, Global};
 
-/// The address of a cell of an object.
-fn address(object: u32, offset: u32) -> u64 {
-    u64::from(object) * 65536 + u64::from(offset)
+/// What an entity is: the number of a function, or the address of an object.
+fn value_of_entity(program: &TypedProgram, entity: u32) -> u64
+    ensures { result ≡ entity_of (program_view program.now) entity }
+{
+    match program.entities.as_slice().get(entity as usize) {
+        None => 0,
+        Some(Numbered::Nowhere) => 0,
+        Some(Numbered::Function(number)) => u64::from(*number),
+        Some(Numbered::Object(number)) => u64::from(*number) * 65536,
+    }
 }
 
 /// What a cell starts with.
-fn start_value(program: &TypedProgram, part: Part, start: Start) -> u64 {
+fn start_value(program: &TypedProgram, part: Part, start: Start) -> Result<u64, LowerRefusal>
+    ensures value { IfOk result (λ v. v ≡ meaning.start_value (program_view program.now) part start) }
+    ensures memory { IfErr result (λ e. e ≡ Memory) }
+{
     match start {
-        Start::Number(number) => u64::from(number),
-        Start::Object(entity, offset) => address(number_of(program, entity), offset),
-        Start::Text(number, offset) => address(number_of_text(program, part, number), offset),
-        Start::Function(entity) => u64::from(number_of(program, entity)),
+        Start::Number(number) => Ok(u64::from(number)),
+        Start::Object(entity, offset) => {
+            Ok(value_of_entity(program, entity) + u64::from(offset))
+        }
+        Start::Text(number, offset) => {
+            let object = number_of_text(program, part, number)?;
+            Ok(u64::from(object) * 65536 + u64::from(offset))
+        }
+        Start::Function(entity) => Ok(value_of_entity(program, entity)),
     }
 }
 
 /// Whether the elements of an array are `const` (C11 6.7.3p9).
-fn has_const_elements(types: &Types, of: TypeRef) -> bool {
+fn has_const_elements(types: &Types, of: TypeRef) -> bool
+    ensures { result ≡ meaning.has_const_elements (type_at types.now of) }
+{
     match types.shape(of) {
         Shape::Array(element, _, _) => {
             element.qualifiers.is_const || has_const_elements(types, element.target)
@@ -32,7 +60,9 @@ fn has_const_elements(types: &Types, of: TypeRef) -> bool {
 }
 
 /// A cell takes a value, if it is there.
-fn set_cell(cells: &mut Vec<u64>, index: usize, value: u64) {
+fn set_cell(cells: &mut Vec<u64>, index: usize, value: u64)
+    ensures { cells.new.items ≡ slice_set cells.old.items index value }
+{
     if let Some(cell) = cells.get_mut(index) {
         *cell = value;
     }
@@ -45,17 +75,22 @@ fn contents(
     part: Part,
     cells: u16,
     given: &[StartCell],
-) -> Result<Vec<u64>, AllocError> {
+) -> Result<Vec<u64>, LowerRefusal>
+    ensures contents { IfOk result (λ values. values.items ≡ meaning.with_given (program_view program.now) part given.now (replicate cells 0)) }
+    ensures memory { IfErr result (λ e. e ≡ Memory) }
+{
     let mut values = vec![in alloc; 0; cells as usize]?;
     for cell in given {
-        let value = start_value(program, part, cell.start);
+        let value = start_value(program, part, cell.start)?;
         set_cell(&mut values, cell.index as usize, value);
     }
     Ok(values)
 }
 
 /// The zeros at the end are left out.
-fn drop_zeros(values: &mut Vec<u64>) {
+fn drop_zeros(values: &mut Vec<u64>)
+    ensures { values.new.items ≡ without_zeros values.old.items }
+{
     while values.last() == Some(&0) {
         values.pop();
     }
@@ -67,9 +102,15 @@ fn object_of_static(
     program: &TypedProgram,
     part: Part,
     object: &TypedStatic,
-) -> Result<Static, AllocError> {
+) -> Result<Static, LowerRefusal>
+    ensures object {
+        IfOk result (λ made.
+            made ≡ shortened (meaning.object_of_static (program_view program.now) part (static_view (type_at program.now.types) object.now)))
+    }
+    ensures memory { IfErr result (λ e. e ≡ Memory) }
+{
     let types = &program.types;
-    let cells = cells(types, object.ty.target);
+    let cells = cells(types, object.ty.target)?;
     let mut values = contents(alloc, program, part, cells, object.cells.as_slice())?;
     drop_zeros(&mut values);
     Ok(Static {
@@ -79,13 +120,27 @@ fn object_of_static(
     })
 }
 
-/// A string literal: its bytes as `char`, and a final 0 (C11 6.4.5p6, p7).
-fn object_of_text(alloc: Global, text: &TextObject) -> Result<Static, AllocError> {
-    let bytes = text.bytes.as_slice();
+/// The bytes of a string literal as `char`.
+fn characters(alloc: Global, bytes: &[u8]) -> Result<Vec<u64>, AllocError>
+    ensures { IfOk result (λ values. values.items ≡ map (convert_of UChar Char) bytes.now) }
+{
     let mut values = Vec::with_capacity(alloc, bytes.len())?;
     for byte in bytes {
         values.push(convert(Ty::UChar, Ty::Char, u64::from(*byte)))?;
     }
+    Ok(values)
+}
+
+/// A string literal: its bytes as `char`, and a final 0 (C11 6.4.5p6, p7).
+fn object_of_text(alloc: Global, text: &TextObject) -> Result<Static, LowerRefusal>
+    ensures object { IfOk result (λ made. made ≡ shortened (meaning.object_of_text text.now)) }
+    ensures memory { IfErr result (λ e. e ≡ Memory) }
+{
+    let bytes = text.bytes.as_slice();
+    if bytes.len() > 65_534 {
+        return Err(LowerRefusal::Memory);
+    }
+    let mut values = characters(alloc, bytes)?;
     drop_zeros(&mut values);
     Ok(Static {
         cells: bytes.len() as u16 + 1,
@@ -99,7 +154,10 @@ pub(crate) fn statics_of(
     alloc: Global,
     program: &TypedProgram,
     part: Part,
-) -> Result<Items<Static>, AllocError> {
+) -> Result<Items<Static>, LowerRefusal>
+    ensures objects { IfOk result (λ objects. objects ≡ map shortened (meaning.objects_at_start (program_view program.now) part)) }
+    ensures memory { IfErr result (λ e. e ≡ Memory) }
+{
     let file = file_of(program, part);
     let mut objects = Vec::new(alloc);
     for object in file.statics.as_slice() {

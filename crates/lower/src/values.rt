@@ -3,8 +3,7 @@ ghost use Rattle.mid_code.specs.declared.mid.Mid.TheVariants as mid_of;
 ghost use Rattle.mid_code.specs.Registers.{registers_list};
 ghost use Rattle.c_types.specs.Types.{ty_of};
 ghost use Rattle.c_typed.specs.Views.{value_view, place_view, values_from};
-ghost use Rattle.lower.specs.Emitting.{◌>>=◌, two_ways};
-ghost use Rattle.lower.specs.Expressions.{value_of, address_of, location_of, values_in, dropped_in, decides, joins_first, joins_second, updated, repointed, moved_by};
+ghost use Rattle.lower.specs.Expressions.{value_of, address_of, location_of, values_in, dropped_in, decides, chosen, updated, repointed, moved_by};
 ghost use Rattle.lower.specs.Emits.{Emits, itself, nothing, rows_of, types_of, inside_view, located_view};
 
 use crate::emitter::{Emitter, Located};
@@ -196,9 +195,8 @@ fn choose(
 ) -> Result<u16, LowerRefusal>
     ensures {
         Emits itself (rows_of at.entry) out.old out.new result
-            (two_ways line (mid_of.JumpZ test)
-            (value_of (inside_view at.entry) (value_view (types_of at.entry) a.now) k >>= joins_first (types_of at.entry of) line)
-            (λ d. value_of (inside_view at.entry) (value_view (types_of at.entry) b.now) k >>= joins_second (types_of at.entry of) line d))
+            (chosen (types_of at.entry of) line (value_of (inside_view at.entry) (value_view (types_of at.entry) a.now) k)
+            (value_of (inside_view at.entry) (value_view (types_of at.entry) b.now) k) test)
     }
 {
     let waits = out.jump_from(line, false, test)?;
