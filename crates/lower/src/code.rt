@@ -1,9 +1,9 @@
-ghost use Rattle.std.specs.Prelude.{◌≡◌, ℕ, ◌∷◌, List, [], Some, None, option_map, OnOk, IfOk};
+ghost use Rattle.std.specs.Prelude.{◌≡◌, ℕ, ◌∷◌, List, [], length, Some, None, option_map, OnOk, IfOk};
 ghost use Rattle.mid_code.specs.declared.mid.Mid.TheVariants as mid_of;
 ghost use Rattle.lower.specs.Emitting.{at_line};
 ghost use Rattle.lower.specs.SoFar.{Leads, leads_of, with_line, landed, leading_to, IsHere};
-ghost use Rattle.lower.specs.Instructions.{told, instruction_view};
-ghost use Rattle.lower.specs.Drafts.{code_of, TakesLines};
+ghost use Rattle.lower.specs.Instructions.{told, instruction_view, line_view};
+ghost use Rattle.lower.specs.Drafts.{code_of, leads_in, known_leads, places_by, line_of, IsBelow, TakesLines};
 
 use mid_code::{Mid, MidLine};
 use std::alloc::{AllocError, Global};
@@ -108,7 +108,10 @@ impl Code {
     }
 
     /// An instruction more, unless there are too many.
-    fn draft(&mut self, draft: Draft) -> Result<(), AllocError> {
+    fn draft(&mut self, draft: Draft) -> Result<(), AllocError>
+        requires { IsBelow (length self.old.loops) draft }
+        ensures { OnOk result ((leads : List Leads) → code_of self.new leads ≡ with_line (line_of (leads_in self.old leads) draft) (code_of self.old leads)) }
+    {
         if self.drafts.len() >= MOST_INSTRUCTIONS {
             self.is_long = true;
             return Ok(());
@@ -212,7 +215,9 @@ impl Code {
 
 impl Draft {
     /// The instruction, where each loop has its places.
-    fn at(&self, loops: &[Places]) -> MidLine {
+    fn at(&self, loops: &[Places]) -> MidLine
+        ensures { line_view result ≡ line_of (known_leads loops.now) self.now }
+    {
         let mid = match self.target {
             Target::Known => self.mid,
             Target::Break(number) => led(self.mid, places_of(loops, number).break_at),
@@ -226,6 +231,8 @@ impl Draft {
 }
 
 /// Where the jumps of a loop lead.
-fn places_of(loops: &[Places], number: usize) -> Places {
+fn places_of(loops: &[Places], number: usize) -> Places
+    ensures { result ≡ places_by loops.now number }
+{
     loops.get(number).copied().unwrap_or(UNKNOWN)
 }
