@@ -1,2 +1,4 @@
+mod Closing
 mod Growing
+mod RunSteps
 mod Steps
