@@ -1,2 +1,5 @@
 mod Growing
 mod Steps
+mod RunSteps
+mod Landing
+mod StatementRows
