@@ -8,7 +8,6 @@ ghost use Rattle.lower.specs.Drafts.{code_of, leads_in, known_leads, places_by, 
 use mid_code::{Mid, MidLine};
 use std::alloc::{AllocError, Global};
 use std::marker::Model;
-use std::mem;
 
 /// The most instructions of a function.
 const MOST_INSTRUCTIONS: usize = 65_535;
@@ -157,10 +156,16 @@ impl Code {
     pub(crate) fn lead(&mut self, at: u32, place: u32)
         ensures { (leads : List Leads) → code_of self.new leads ≡ option_map (landed at place) (code_of self.old leads) }
     {
-        if let Some(draft) = self.drafts.get_mut(at as usize) {
-            draft.mid = led(draft.mid, place);
-            draft.target = Target::Known;
+        let at = at as usize;
+        if at >= self.drafts.len() {
+            return;
         }
+        let draft = self.drafts[at];
+        self.drafts[at] = Draft {
+            line: draft.line,
+            mid: led(draft.mid, place),
+            target: Target::Known,
+        };
     }
 
     /// A loop begins. The code so far has none of its jumps.
@@ -169,7 +174,8 @@ impl Code {
     {
         let number = self.loops.len();
         self.loops.push(UNKNOWN)?;
-        self.outer.push(mem::replace(&mut self.current, number))?;
+        self.outer.push(self.current)?;
+        self.current = number;
         Ok(())
     }
 
@@ -180,19 +186,20 @@ impl Code {
                 ((leads : List Leads) → code_of self.new leads ≡ code_of self.old (record { break_at = break_at; continue_at = continue_at } ∷ leads))
         }
     {
-        if let Some(places) = self.loops.get_mut(self.current) {
-            *places = Places {
-                break_at,
-                continue_at,
-            };
-        }
+        let places = Places {
+            break_at,
+            continue_at,
+        };
         match self.outer.pop() {
             Some(number) => {
+                self.loops[self.current] = places;
                 self.current = number;
             }
             None => {
-                self.current = self.loops.len();
+                let number = self.loops.len();
                 self.loops.push(UNKNOWN)?;
+                self.loops[self.current] = places;
+                self.current = number;
             }
         }
         Ok(())
