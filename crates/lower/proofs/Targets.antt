@@ -82,14 +82,33 @@ led-line f place line m from (Break n) is =
 led-line f place line m from (Continue n) is =
     ap (λ (i : Instruction). record { line = line; instruction = i }) (is ∙ sym (led-twice place (f n).continue_at (instruction_view from)))
 
-pub led-lines : (f : ℕ → Leads) (place : ℕ) (m : Mid) (at : ℕ) (ds : List Draft) (d : Draft) → at < length ds
+led-lines : (f : ℕ → Leads) (place : ℕ) (m : Mid) (at : ℕ) (ds : List Draft) (d : Draft) → at < length ds
     → instruction_view m ≡ leading_to place (instruction_view (get_or ds at d).mid)
     → map (line_of f) (set ds at (record { line = (get_or ds at d).line; mid = m; target = Known })) ≡ landed at place (map (line_of f) ds)
 led-lines f place m at [] d within is = refl
 led-lines f place m zero (x ∷ ds) d within is = ap (λ (l : Line). l ∷ map (line_of f) ds) (led-line f place x.line m x.mid x.target is)
 led-lines f place m (suc at) (x ∷ ds) d within is = ap (λ (ls : List Line). line_of f x ∷ ls) (led-lines f place m at ds d (omega arith) is)
 
-pub landed-past : (at place : ℕ) (ls : List Line) → length ls ≤ at → landed at place ls ≡ ls
+landed-past : (at place : ℕ) (ls : List Line) → length ls ≤ at → landed at place ls ≡ ls
 landed-past at place [] h = refl
 landed-past zero place (l ∷ ls) h = absurd (omega arith)
 landed-past (suc at) place (l ∷ ls) h = ap (λ (xs : List Line). l ∷ xs) (landed-past at place ls (omega arith))
+
+pub led-at : (f : ℕ → Leads) (place : ℕ) (m : Mid) (at : ℕ) (ds : List Draft) (d : Draft) (b : Bool) → at < length ds → d ≡ get_or ds at d
+    → instruction_view m ≡ leading_to place (instruction_view d.mid)
+    → lines_if b (map (line_of f) (set ds at (record { line = d.line; mid = m; target = Known }))) ≡ option_map (landed at place) (lines_if b (map (line_of f) ds))
+led-at f place m at ds d true within e is = refl
+led-at f place m at ds d false within e is =
+    ap (λ (x : Draft). Some (map (line_of f) (set ds at (record { line = x.line; mid = m; target = Known })))) e
+    ∙ ap Some (led-lines f place m at ds d within (is ∙ ap (λ (x : Draft). leading_to place (instruction_view x.mid)) e))
+
+pub led-none : (f : ℕ → Leads) (place at : ℕ) (ds : List Draft) (b : Bool) → length ds ≤ at
+    → lines_if b (map (line_of f) ds) ≡ option_map (landed at place) (lines_if b (map (line_of f) ds))
+led-none f place at ds true past = refl
+led-none f place at ds false past =
+    let same : length (map (line_of f) ds) ≡ length ds = length-map ds (line_of f) in
+    ap Some (sym (landed-past at place (map (line_of f) ds) (omega arith)))
+
+pub long-none : (ls : List Line) (b : Bool) → b ≡ true → lines_if b ls ≡ None
+long-none ls true e = refl
+long-none ls false e = absurd (false≢true e)
