@@ -1,5 +1,8 @@
 mod Growing
 mod Steps
 mod RunSteps
+mod Closing
 mod Landing
 mod StatementRows
+mod Parts
+mod Looping
