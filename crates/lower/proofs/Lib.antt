@@ -1,2 +1,4 @@
 mod Growing
 mod Steps
+mod StartingObjects
+mod EntityValues
