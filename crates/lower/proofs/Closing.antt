@@ -6,6 +6,7 @@ use Rattle.mid_code.specs.declared.mid.Mid.TheVariants as mid
 use Rattle.c_types.specs.declared.type_ref.Row.{Row}
 use Rattle.lower.specs.declared.body.Body.{Body}
 use Rattle.lower.specs.declared.emitter.Emitter.{Emitter}
+use Rattle.lower.specs.declared.allotted.Allotted.{Allotted as CodeAllotted}
 use Rattle.lower.specs.declared.refusal.LowerRefusal.{LowerRefusal}
 use Rattle.lower.specs.declared.refusal.LowerRefusal.TheVariants.{TooManyRegisters, TooLong, Memory}
 use Rattle.lower.specs.Emitting.{Line, at_line, Code, Around, Made, Making, made, ◌>>=◌, ◌>>◌, emits_code}
@@ -48,9 +49,9 @@ closed-both line xs ys old mid new first next = record {
 -- code that depends on what stands around is emitted
 pub emitted-around : (rows : List Row) (old new : Body) (c : Code) (x : ⊤) → new.out.allotted ≡ old.out.allotted → SameObjects old new
     → GrowsAround c old new → Runs nothing rows old new (Ok x) (emits_code c)
-unfolding Runs
-emitted-around rows old new c x allotted same grows = λ stand.
-    (refl, ap (allotted_view rows) (sym allotted), same, grows, subst (λ a. AllStand rows a.types.keys) (sym allotted) stand)
+emitted-around rows old new c x allotted same grows = record {
+  is = λ stand. (refl, ap (allotted_view rows) (sym allotted), same, grows, subst (λ (a : CodeAllotted). AllStand rows a.types.keys) (sym allotted) stand);
+}
 
 -- a jump of a loop behind the objects that end
 pub left : (rows : List Row) (line : ℕ) (old new : Body) (out : Emitter) (c : Code) (l : Leads → Line) (x : ⊤)
