@@ -2,3 +2,5 @@ mod Closing
 mod Growing
 mod RunSteps
 mod Steps
+mod Targets
+mod OpenLoops
