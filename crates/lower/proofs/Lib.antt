@@ -1,3 +1,7 @@
-mod Growing
-mod Steps
+mod Closing
 mod Emitted
+mod Growing
+mod OpenLoops
+mod RunSteps
+mod Steps
+mod Targets
