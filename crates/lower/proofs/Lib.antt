@@ -2,3 +2,4 @@ mod Growing
 mod Steps
 mod StartingObjects
 mod EntityValues
+mod FunctionTypes
