@@ -1,5 +1,9 @@
+mod Closing
 mod Growing
+mod RunSteps
 mod Steps
 mod StartingObjects
 mod EntityValues
 mod FunctionTypes
+mod Targets
+mod OpenLoops
