@@ -4,4 +4,7 @@ mod Growing
 mod OpenLoops
 mod RunSteps
 mod Steps
+mod StartingObjects
+mod EntityValues
+mod FunctionTypes
 mod Targets
