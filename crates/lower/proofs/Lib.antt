@@ -1,10 +1,10 @@
 mod Closing
 mod Emitted
+mod EntityValues
+mod FunctionTypes
 mod Growing
 mod OpenLoops
 mod RunSteps
-mod Steps
 mod StartingObjects
-mod EntityValues
-mod FunctionTypes
+mod Steps
 mod Targets
