@@ -1,11 +1,12 @@
 -- Where loops lead by their numbers, as loops begin and end.
-use Rattle.std.proofs.Common.{◌≡◌, ◌<◌, ◌≤◌, ◌==◌, ℕ, suc, ◌+◌, Bool, true, false, if◌then◌else◌, List, [], ◌∷◌, ◌++◌, length, get_or, set, refl, sym, ◌∙◌, ap, subst, arith}
+use Rattle.std.proofs.Common.{◌≡◌, ◌<◌, ◌≤◌, ◌==◌, ℕ, suc, ◌+◌, Bool, true, false, if◌then◌else◌, List, [], ◌∷◌, ◌++◌, length, get_or, set, Some, refl, sym, ◌∙◌, ap, subst, arith}
 use Rattle.std.proofs.lemmas.List.{get_or_append_left, get_or_push, get_or-set_same, get_or-set_other, set-append_left, length-set, length_push, reverse-append}
 use Rattle.std.specs.Prelude.{All, reverse, map}
 use Rattle.std.proofs.lemmas.List.Elements.{All-weaker}
-use Rattle.std.proofs.lemmas.Bool.{eq-eqb, ne_eqb, eqb-true, eqb-false}
+use Rattle.std.proofs.lemmas.Bool.{ne_eqb, eqb-true, eqb-false, true≢false}
 use Rattle.mid_code.specs.declared.mid.Mid.{Mid}
 use Rattle.lower.specs.declared.code.Places.{Places}
+use Rattle.lower.specs.Emitting.{Line}
 use Rattle.lower.specs.SoFar.{Leads, leads_of, leads_around, no_leads}
 use Rattle.lower.specs.declared.code.Draft.{Draft}
 use Rattle.lower.specs.declared.code.Target.{Target}
@@ -98,7 +99,7 @@ ended loops m p numbers leads n within below = by (n == m) refl
 -- ---- the end
 
 -- where those that are open lead to nothing
-pub leads-known : (loops : List Places) (bound : ℕ) (numbers : List ℕ) (n : ℕ)
+leads-known : (loops : List Places) (bound : ℕ) (numbers : List ℕ) (n : ℕ)
     → OpenBelow loops bound numbers → leads_by loops numbers [] n ≡ known_leads loops n
 leads-known loops bound [] n h = refl
 leads-known loops bound (m ∷ numbers) n h = by (n == m) refl (leads-known loops m numbers n h.2)
@@ -154,6 +155,17 @@ last-lines ds b loops loops-2 number current outer outer-2 p leads more is none 
     (same-lines (leads_by (set (loops ++ unknown ∷ []) current p) (number ∷ []) leads) (leads_by loops (current ∷ []) (leads_view p ∷ leads))
     (length loops) (λ n h. last-ended loops number current n p leads is within h) ds below)
     ∙ ap (λ (xs : List ℕ). lines_if b (map (line_of (leads_by loops (current ∷ reverse xs) (leads_view p ∷ leads))) ds)) (sym none)
+
+-- at the end it is known where each loop leads
+pub known-lines : (ds : List Draft) (b : Bool) (loops : List Places) (current : ℕ) (outer : List ℕ) (ls : List Line)
+    → b ≡ false → ls ≡ map (line_of (known_leads loops)) ds
+    → IsHeld (record { is_long = b; loops = loops; current = current; outer = outer; drafts = ds })
+    → lines_if b (map (line_of (leads_by loops (current ∷ reverse outer) [])) ds) ≡ Some ls
+known-lines ds true loops current outer ls short is h = absurd (true≢false short)
+known-lines ds false loops current outer ls short is h =
+    ap Some
+    (same-lines (leads_by loops (current ∷ reverse outer) []) (known_leads loops) (length loops)
+    (λ n _. leads-known loops (length loops) (current ∷ reverse outer) n h.opened) ds h.below ∙ sym is)
 
 -- ---- what always holds
 
