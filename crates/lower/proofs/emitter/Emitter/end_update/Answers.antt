@@ -1,0 +1,17 @@
+use Rattle.std.proofs.Common.{rules, ◌≡◌, ℕ, suc, if◌then◌else◌, List, ◌+◌, ◌-◌, ◌*◌, ◌<◌, ◌≤◌, length, ◌/◌, ◌%◌, Bool, true, false, nat_eq, nat_lt, [], ◌∷◌, ◌++◌, slice_index_or, slice_set, bit_and, bit_or, Fits, w8, w32, w64, Bor, MutBor}
+use Rattle.c_types.specs.declared.type_ref.Row.{Row}
+use Rattle.lower.specs.Expressions.{changing_integer, changing_pointer, widened, changed_to, integer_changed, pointer_changed}
+use Rattle.lower.specs.Emits.{Emits, itself, rows_of, types_of, located_view, change_view}
+use Rattle.lower.proofs.emitter.Emitter.end_update.Goals as goal
+
+-- src/changes.rt:122:9
+pub returns-in_err-emit : goal.returns-in_err-emit
+returns-in_err-emit c = ?
+
+-- src/changes.rt:132:9
+pub returns-in_err-convert : goal.returns-in_err-convert
+returns-in_err-convert c = ?
+
+-- src/changes.rt:108:5
+pub returns : goal.returns
+returns c = ?
