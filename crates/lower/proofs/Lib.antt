@@ -1,2 +1,6 @@
+
 mod Growing
 mod Steps
+mod EmittedParts
+mod Rows
+mod ValueLists
