@@ -6,3 +6,4 @@ mod Landing
 mod StatementRows
 mod Parts
 mod Looping
+mod Rounds
