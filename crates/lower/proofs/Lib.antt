@@ -1,9 +1,6 @@
-mod Growing
-mod Steps
-mod RunSteps
 mod Closing
-mod Landing
-mod StatementRows
-mod Parts
-mod Looping
-mod Rounds
+mod Growing
+mod RunSteps
+mod Steps
+mod Targets
+mod OpenLoops
