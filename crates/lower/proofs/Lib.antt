@@ -1,6 +1,6 @@
 mod Closing
 mod Growing
-mod RunSteps
+mod Landing
 mod Steps
 mod Targets
 mod OpenLoops
