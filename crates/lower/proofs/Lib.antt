@@ -1,6 +1,11 @@
 mod Closing
 mod Growing
 mod Landing
+mod Looping
+mod OpenLoops
+mod Parts
+mod Rounds
+mod RunSteps
+mod StatementRows
 mod Steps
 mod Targets
-mod OpenLoops
