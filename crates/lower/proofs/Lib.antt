@@ -8,3 +8,4 @@ mod RunSteps
 mod StartingObjects
 mod Steps
 mod Targets
+mod Allotting

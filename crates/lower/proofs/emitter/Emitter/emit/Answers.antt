@@ -6,4 +6,4 @@ pub returns-in_err-emit : goal.returns-in_err-emit
 returns-in_err-emit c = λ rows. memory (exits c.from_residual.result _ c.from_residual.ensures.1)
 
 pub returns : goal.returns
-returns c = λ rows. told-one (c.in_ok-emit.ensures tt)
+returns c = λ rows. told-one c.args.mid c.in_ok-emit.ensures
