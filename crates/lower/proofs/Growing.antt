@@ -1,6 +1,6 @@
 -- How code grows: part by part, as the parts stand behind one another.
-use Rattle.std.proofs.Common.{◌≡◌, ℕ, zero, suc, ◌+◌, Bool, true, false, List, [], ◌∷◌, ◌++◌, length, Option, Some, None, refl, sym, ◌∙◌, ap, subst, arith}
-use Rattle.std.proofs.lemmas.List.{length-append, append-assoc}
+use Rattle.std.proofs.Common.{◌≡◌, ℕ, zero, suc, ◌+◌, nat_lt, Bool, true, false, List, [], ◌∷◌, ◌++◌, length, Option, Some, None, refl, sym, ◌∙◌, ap, subst, arith}
+use Rattle.std.proofs.lemmas.List.{length-append, append_assoc}
 use Rattle.lower.specs.Emitting.{Line, Code, ◌⨟◌, no_code, Around}
 use Rattle.lower.specs.SoFar.{Lines, with_line, if_room, added, grown, most_instructions}
 
@@ -24,14 +24,15 @@ pub grown-at : (around : Around) (d : Code) (xs ls : List Line)
     → grown around d (added xs (Some ls)) ≡ added (d around (length ls + length xs)) (added xs (Some ls))
 unfolding with_line
 grown-at around d [] ls = ap (λ n. added (d around n) (Some ls)) (sym (plus-zero (length ls)))
-grown-at around d (x ∷ xs) ls = next (nat_lt (length ls) most_instructions)
+grown-at around d (x ∷ xs) ls = next (nat_lt (length ls) most_instructions) (grown-at around d xs (ls ++ x ∷ []))
   where
-    next : (b : Bool) → grown around d (added xs (if_room x ls b)) ≡ added (d around (length ls + suc (length xs))) (added xs (if_room x ls b))
-    next true =
-        grown-at around d xs (ls ++ x ∷ [])
+    next : (b : Bool) → grown around d (added xs (Some (ls ++ x ∷ []))) ≡ added (d around (length (ls ++ x ∷ []) + length xs)) (added xs (Some (ls ++ x ∷ [])))
+        → grown around d (added xs (if_room x ls b)) ≡ added (d around (length ls + suc (length xs))) (added xs (if_room x ls b))
+    next true h =
+        h
         ∙ ap (λ n. added (d around n) (added xs (Some (ls ++ x ∷ []))))
         (ap (λ n. n + length xs) (length-append ls (x ∷ [])) ∙ plus-suc (length ls) (length xs))
-    next false =
+    next false h =
         ap (grown around d) (added-none xs) ∙ sym (ap (added (d around (length ls + suc (length xs)))) (added-none xs) ∙ added-none (d around (length ls + suc (length xs))))
 
 pub grown-behind : (around : Around) (c d : Code) (s : Lines) → grown around d (grown around c s) ≡ grown around (c ⨟ d) s

@@ -10,7 +10,7 @@ use Rattle.lower.specs.declared.refusal.LowerRefusal.TheVariants.{TooManyRegiste
 use Rattle.lower.specs.Emitting.{Code, ◌⨟◌, Around, Allotted, Made, Making, made, behind, and_then, ◌>>=◌, pure, either}
 use Rattle.lower.specs.SoFar.{Leads, grown}
 use Rattle.lower.specs.Drafts.{code_of}
-use Rattle.lower.specs.Emits.{AllStand, allotted_view, Grows, Makes, Emits}
+use Rattle.lower.specs.Emits.{AllStand, allotted_view, Grows, Makes, EmitsAs, Emits}
 use Rattle.lower.proofs.Growing.{grown-behind, grown-none}
 
 -- ---- exits
@@ -21,8 +21,7 @@ exits r e h = let p = err_from_is_err_and r h in p.1 ∙ ap Err p.2
 
 -- want of memory is always an answer
 pub memory : {X A : Type 0} {view : X → A} {rows : List Row} {old new : Emitter} {r : Result X LowerRefusal} {m : Making A} → r ≡ Err Memory → Emits view rows old new r m
-unfolding Emits
-memory {X} {A} {view} {rows} {old} {new} {r} {m} e = subst (λ s. Emits view rows old new s m) (sym e) tt
+memory {X} {A} {view} {rows} {old} {new} {r} {m} e = record { is = subst (λ s. EmitsAs view rows old new s m) (sym e) tt }
 
 -- ---- steps
 
@@ -39,7 +38,7 @@ module _ {A B Y : Type 0} (next_view : Y → B) (rows : List Row) (old mid new :
       → Makes rows (and_then c f) (next_view y) old new
   given-then a f y (Ok c) first next =
       made-then a f y c (f c.given c.after) first.2
-      (subst (λ z. Makes rows (f z.0 z.1) (next_view y) mid new) (λ i. (sym first.0 i, sym first.1 i)) (next first.3))
+      (subst (λ (d : Result (Made B) ℕ). Makes rows d (next_view y) mid new) (λ i. f (sym first.0 i) (sym first.1 i)) (next first.3))
   given-then a f y (Err line) first next = absurd first
 
   refused-then : (a : A) (f : A → Making B) (line : ℕ) (c : Result (Made A) ℕ)
@@ -49,36 +48,35 @@ module _ {A B Y : Type 0} (next_view : Y → B) (rows : List Row) (old mid new :
 
 -- a call emitted something, and what comes after it emits the rest
 pub step : {X A Y B : Type 0} {view : X → A} {next_view : Y → B} {rows : List Row} {old mid new : Emitter} {x : X} {r : Result Y LowerRefusal}
-    {m : Making A} {f : A → Making B} (w : Making B)
+    {m : Making A} {w : Making B} (f : A → Making B)
     → w ≡ (m >>= f) → Emits view rows old mid (Ok x) m → Emits next_view rows mid new r (f (view x)) → Emits next_view rows old new r w
-unfolding Emits ◌>>=◌
-step {X} {A} {Y} {B} {view} {next_view} {rows} {old} {mid} {new} {x} {r} {m} {f} w is first next =
-    subst (Emits next_view rows old new r) (sym is) (by r next)
+unfolding ◌>>=◌
+step {X} {A} {Y} {B} {view} {next_view} {rows} {old} {mid} {new} {x} {r} {m} f is first next =
+    subst (Emits next_view rows old new r) (sym is) (record { is = by r next.is })
   where
-    by : (s : Result Y LowerRefusal) → Emits next_view rows mid new s (f (view x)) → Emits next_view rows old new s (m >>= f)
-    by (Ok y) then = λ stand. given-then next_view rows old mid new (view x) f y (m (allotted_view rows old.allotted)) (first stand) then
+    by : (s : Result Y LowerRefusal) → EmitsAs next_view rows mid new s (f (view x)) → EmitsAs next_view rows old new s (m >>= f)
+    by (Ok y) then = λ stand. given-then next_view rows old mid new (view x) f y (m (allotted_view rows old.allotted)) (first.is stand) then
     by (Err (TooManyRegisters line)) then =
-        λ stand. refused-then next_view rows old mid new (view x) f line (m (allotted_view rows old.allotted)) (first stand) then
+        λ stand. refused-then next_view rows old mid new (view x) f line (m (allotted_view rows old.allotted)) (first.is stand) then
     by (Err (TooLong line)) then = then
     by (Err Memory) then = then
 
 -- a call was refused, which the whole is then
 pub stop : {X A Y B : Type 0} {view : X → A} {next_view : Y → B} {rows : List Row} {old mid new : Emitter} {r : Result Y LowerRefusal} {e : LowerRefusal}
-    {m : Making A} {f : A → Making B} (w : Making B)
+    {m : Making A} {w : Making B} (f : A → Making B)
     → w ≡ (m >>= f) → r ≡ Err e → Emits view rows old mid (Err e) m → Emits next_view rows old new r w
-unfolding Emits ◌>>=◌
-stop {X} {A} {Y} {B} {view} {next_view} {rows} {old} {mid} {new} {r} {e} {m} {f} w is out first =
-    subst (λ s. Emits next_view rows old new s w) (sym out) (subst (Emits next_view rows old new (Err e)) (sym is) (by e first))
+unfolding ◌>>=◌
+stop {X} {A} {Y} {B} {view} {next_view} {rows} {old} {mid} {new} {r} {e} {m} {w} f is out first =
+    subst (λ s. Emits next_view rows old new s w) (sym out) (subst (Emits next_view rows old new (Err e)) (sym is) (record { is = by e first.is }))
   where
-    by : (e : LowerRefusal) → Emits view rows old mid (Err e) m → Emits next_view rows old new (Err e) (m >>= f)
+    by : (e : LowerRefusal) → EmitsAs view rows old mid (Err e) m → EmitsAs next_view rows old new (Err e) (m >>= f)
     by (TooManyRegisters line) h = λ stand. ap (λ c. and_then c f) (h stand)
     by (TooLong line) h = h
     by Memory h = h
 
 -- nothing is emitted, and something is given
 pub given : {Y B : Type 0} {view : Y → B} {rows : List Row} {s : Emitter} {y : Y} → Emits view rows s s (Ok y) (pure (view y))
-unfolding Emits
-given {Y} {B} {view} {rows} {s} {y} = λ stand. (refl, refl, (λ leads around. grown-none around (code_of s.code leads)), stand)
+given {Y} {B} {view} {rows} {s} {y} = record { is = λ stand. (refl, refl, (λ leads around. grown-none around (code_of s.code leads)), stand) }
 
 pub same-making : {Y B : Type 0} {view : Y → B} {rows : List Row} {old new : Emitter} {r : Result Y LowerRefusal} {m w : Making B}
     → w ≡ m → Emits view rows old new r m → Emits view rows old new r w
@@ -90,8 +88,8 @@ same-answer {Y} {B} {view} {rows} {old} {new} {r} {s} {m} is h = subst (λ z. Em
 
 -- ---- two cases
 
-pub first-of : {A : Type 0} {b : Bool} {m n : Making A} → b ≡ true → either b m n ≡ m
-first-of {A} {b} {m} {n} is = ap (λ z. either z m n) is
+pub first-of : {A : Type 0} {b : Bool} (m n : Making A) → b ≡ true → either b m n ≡ m
+first-of m n is = ap (λ z. either z m n) is
 
-pub second-of : {A : Type 0} {b : Bool} {m n : Making A} → b ≡ false → either b m n ≡ n
-second-of {A} {b} {m} {n} is = ap (λ z. either z m n) is
+pub second-of : {A : Type 0} {b : Bool} (m n : Making A) → b ≡ false → either b m n ≡ n
+second-of m n is = ap (λ z. either z m n) is

@@ -77,11 +77,14 @@ Settles rows (Ok m) a new =
     (m.given ≡ a) × (m.after ≡ allotted_view rows new) × ((around : Around) (start : ℕ) → m.code around start ≡ []) × AllStand rows new.types.keys
 
 -- the same of what is allotted alone
-unfoldable pub Allots : {A B : Type 0} → (B → A) → List Row → CodeAllotted → CodeAllotted → Result B LowerRefusal → Making A → Type 0
-Allots view rows old new (Ok x) m = AllStand rows old.types.keys → Settles rows (m (allotted_view rows old)) (view x) new
-Allots view rows old new (Err (TooManyRegisters line)) m = AllStand rows old.types.keys → m (allotted_view rows old) ≡ Err line
-Allots view rows old new (Err (TooLong line)) m = ⊥
-Allots view rows old new (Err Memory) m = ⊤
+abbrev pub AllotsAs : {A B : Type 0} → (B → A) → List Row → CodeAllotted → CodeAllotted → Result B LowerRefusal → Making A → Type 0
+AllotsAs view rows old new (Ok x) m = AllStand rows old.types.keys → Settles rows (m (allotted_view rows old)) (view x) new
+AllotsAs view rows old new (Err (TooManyRegisters line)) m = AllStand rows old.types.keys → m (allotted_view rows old) ≡ Err line
+AllotsAs view rows old new (Err (TooLong line)) m = ⊥
+AllotsAs view rows old new (Err Memory) m = ⊤
+
+pub record Allots {A B : Type 0} (view : B → A) (rows : List Row) (old new : CodeAllotted) (result : Result B LowerRefusal) (m : Making A) : Type 0 where
+  pub is : AllotsAs view rows old new result m
 
 -- ---- what is emitted
 
@@ -95,8 +98,11 @@ Makes rows (Ok m) a old new =
     (m.given ≡ a) × (m.after ≡ allotted_view rows new.allotted) × Grows m.code (code_of old.code) (code_of new.code) × AllStand rows new.allotted.types.keys
 
 -- this making is done, or there are too many registers at the line, or want of memory
-unfoldable pub Emits : {A B : Type 0} → (B → A) → List Row → Emitter → Emitter → Result B LowerRefusal → Making A → Type 0
-Emits view rows old new (Ok x) m = AllStand rows old.allotted.types.keys → Makes rows (m (allotted_view rows old.allotted)) (view x) old new
-Emits view rows old new (Err (TooManyRegisters line)) m = AllStand rows old.allotted.types.keys → m (allotted_view rows old.allotted) ≡ Err line
-Emits view rows old new (Err (TooLong line)) m = ⊥
-Emits view rows old new (Err Memory) m = ⊤
+abbrev pub EmitsAs : {A B : Type 0} → (B → A) → List Row → Emitter → Emitter → Result B LowerRefusal → Making A → Type 0
+EmitsAs view rows old new (Ok x) m = AllStand rows old.allotted.types.keys → Makes rows (m (allotted_view rows old.allotted)) (view x) old new
+EmitsAs view rows old new (Err (TooManyRegisters line)) m = AllStand rows old.allotted.types.keys → m (allotted_view rows old.allotted) ≡ Err line
+EmitsAs view rows old new (Err (TooLong line)) m = ⊥
+EmitsAs view rows old new (Err Memory) m = ⊤
+
+pub record Emits {A B : Type 0} (view : B → A) (rows : List Row) (old new : Emitter) (result : Result B LowerRefusal) (m : Making A) : Type 0 where
+  pub is : EmitsAs view rows old new result m

@@ -33,11 +33,14 @@ MakesAround rows (Ok m) a old new =
     (m.given ≡ a) × (m.after ≡ allotted_view rows new.out.allotted) × SameObjects old new × GrowsAround m.code old new × AllStand rows new.out.allotted.types.keys
 
 -- this making is done with the objects that live, which stay, or there are too many registers at the line, or want of memory
-unfoldable pub Runs : {A B : Type 0} → (B → A) → List Row → Body → Body → Result B LowerRefusal → Making A → Type 0
-Runs view rows old new (Ok x) m = AllStand rows old.out.allotted.types.keys → MakesAround rows (m (allotted_view rows old.out.allotted)) (view x) old new
-Runs view rows old new (Err (TooManyRegisters line)) m = AllStand rows old.out.allotted.types.keys → m (allotted_view rows old.out.allotted) ≡ Err line
-Runs view rows old new (Err (TooLong line)) m = ⊥
-Runs view rows old new (Err Memory) m = ⊤
+abbrev pub RunsAs : {A B : Type 0} → (B → A) → List Row → Body → Body → Result B LowerRefusal → Making A → Type 0
+RunsAs view rows old new (Ok x) m = AllStand rows old.out.allotted.types.keys → MakesAround rows (m (allotted_view rows old.out.allotted)) (view x) old new
+RunsAs view rows old new (Err (TooManyRegisters line)) m = AllStand rows old.out.allotted.types.keys → m (allotted_view rows old.out.allotted) ≡ Err line
+RunsAs view rows old new (Err (TooLong line)) m = ⊥
+RunsAs view rows old new (Err Memory) m = ⊤
+
+pub record Runs {A B : Type 0} (view : B → A) (rows : List Row) (old new : Body) (result : Result B LowerRefusal) (m : Making A) : Type 0 where
+  pub is : RunsAs view rows old new result m
 
 -- ---- objects that begin
 
@@ -61,10 +64,13 @@ Opens rows begun (Ok m) a old new =
     × AllStand rows new.out.allotted.types.keys
 
 -- objects begin, which live from then on: where the code starts, `begun` lists the places that begin them, the newest first
-unfoldable pub Begins : {A B : Type 0} → (B → A) → List Row → (ℕ → List ℕ) → Body → Body → Result B LowerRefusal → Making A → Type 0
-Begins view rows begun old new (Ok x) m =
+abbrev pub BeginsAs : {A B : Type 0} → (B → A) → List Row → (ℕ → List ℕ) → Body → Body → Result B LowerRefusal → Making A → Type 0
+BeginsAs view rows begun old new (Ok x) m =
     AllStand rows old.out.allotted.types.keys → Opens rows begun (m (allotted_view rows old.out.allotted)) (view x) old new
-Begins view rows begun old new (Err (TooManyRegisters line)) m =
+BeginsAs view rows begun old new (Err (TooManyRegisters line)) m =
     AllStand rows old.out.allotted.types.keys → m (allotted_view rows old.out.allotted) ≡ Err line
-Begins view rows begun old new (Err (TooLong line)) m = ⊥
-Begins view rows begun old new (Err Memory) m = ⊤
+BeginsAs view rows begun old new (Err (TooLong line)) m = ⊥
+BeginsAs view rows begun old new (Err Memory) m = ⊤
+
+pub record Begins {A B : Type 0} (view : B → A) (rows : List Row) (begun : ℕ → List ℕ) (old new : Body) (result : Result B LowerRefusal) (m : Making A) : Type 0 where
+  pub is : BeginsAs view rows begun old new result m
