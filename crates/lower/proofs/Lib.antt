@@ -1,2 +1,10 @@
+mod Closing
+mod Emitted
+mod EntityValues
+mod FunctionTypes
 mod Growing
+mod OpenLoops
+mod RunSteps
+mod StartingObjects
 mod Steps
+mod Targets

@@ -1,5 +1,5 @@
 -- How the code keeps what it does not know yet: a jump that leaves a loop names the loop by its number.
-use Rattle.std.specs.Prelude.{◌≡◌, ◌<◌, ◌==◌, ℕ, zero, suc, Bool, true, false, if◌then◌else◌, List, [], ◌∷◌, length, map, reverse, Option, Some, None, slice_index_or, IsTrue, All, ◌≤◌}
+use Rattle.std.specs.Prelude.{◌≡◌, ◌<◌, ◌==◌, ℕ, Bool, true, false, if◌then◌else◌, List, [], ◌∷◌, length, map, reverse, Option, Some, None, slice_index_or, IsTrue, All, ◌≤◌}
 use Rattle.std.specs.declared.alloc.Global.{Global}
 use Rattle.std.specs.declared.vec.Vec.{Vec}
 use Rattle.mid_code.specs.declared.program.MidLine.{MidLine}
@@ -16,9 +16,13 @@ use Rattle.lower.specs.Instructions.{told, line_view}
 abbrev pub leads_view : Places → Leads
 leads_view p = record { break_at = p.break_at; continue_at = p.continue_at }
 
--- those of a loop that is over, by its number
+-- those of a loop, by its number
+abbrev pub places_by : List Places → ℕ → Places
+places_by loops n = slice_index_or loops n (record { break_at = 0; continue_at = 0 })
+
+-- those of a loop that is over
 abbrev pub known_leads : List Places → ℕ → Leads
-known_leads loops n = leads_view (slice_index_or loops n (record { break_at = 0; continue_at = 0 }))
+known_leads loops n = leads_view (places_by loops n)
 
 -- those of a loop where these are open, the innermost first
 abbrev pub leads_by : List Places → List ℕ → List Leads → ℕ → Leads
@@ -47,9 +51,13 @@ pub record Held : Type 0 where
   pub outer : List ℕ
   pub drafts : List Draft
 
+-- where the loops lead
+abbrev pub leads_in : Held → List Leads → ℕ → Leads
+leads_in h leads = leads_by h.loops (h.current ∷ reverse h.outer) leads
+
 -- the code so far
 unfoldable pub code_of : Held → SoFar
-code_of h leads = lines_if h.is_long (map (line_of (leads_by h.loops (h.current ∷ reverse h.outer) leads)) h.drafts)
+code_of h leads = lines_if h.is_long (map (line_of (leads_in h leads)) h.drafts)
 
 -- a draft names a loop whose number is below
 abbrev pub IsBelow : ℕ → Draft → Type 0

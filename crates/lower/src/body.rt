@@ -32,7 +32,7 @@ pub(crate) fn close(out: &mut Emitter, objects: &[u32], line: u32) -> Result<(),
     ensures { Closes line (reverse objects.now) out.old out.new result }
 {
     for place in objects.iter().rev() {
-        out.emit(line, Mid::Close { place: *place })?;
+        out.code.emit(line, Mid::Close { place: *place })?;
     }
     Ok(())
 }
@@ -68,9 +68,19 @@ impl Body {
         if at.is_main() {
             return self.out.emit(line, Mid::Exit { source });
         }
+        self.close_all(line)?;
+        self.out.emit(line, Mid::Return { source })
+    }
+
+    /// All objects of the function end, the newest first.
+    pub(crate) fn close_all(&mut self, line: u32) -> Result<(), LowerRefusal>
+        ensures {
+            (rows : List Row) → Runs nothing rows self.old self.new result (emits_code (λ around start. closes line around.in_function))
+        }
+    {
         close(&mut self.out, &self.objects, line)?;
         close(&mut self.out, &self.outside, line)?;
-        self.out.emit(line, Mid::Return { source })
+        Ok(())
     }
 
     /// The newest objects, down to so many that stay, end.

@@ -1,14 +1,13 @@
-ghost use Rattle.std.specs.Prelude.{◌≡◌, ℕ, ◌∷◌, List, [], Some, None, option_map, OnOk, IfOk};
+ghost use Rattle.std.specs.Prelude.{◌≡◌, ℕ, ◌∷◌, List, [], length, Some, None, option_map, OnOk, IfOk};
 ghost use Rattle.mid_code.specs.declared.mid.Mid.TheVariants as mid_of;
 ghost use Rattle.lower.specs.Emitting.{at_line};
 ghost use Rattle.lower.specs.SoFar.{Leads, leads_of, with_line, landed, leading_to, IsHere};
-ghost use Rattle.lower.specs.Instructions.{told, instruction_view};
-ghost use Rattle.lower.specs.Drafts.{code_of, TakesLines};
+ghost use Rattle.lower.specs.Instructions.{told, instruction_view, line_view};
+ghost use Rattle.lower.specs.Drafts.{code_of, leads_in, known_leads, places_by, line_of, IsBelow, TakesLines};
 
 use mid_code::{Mid, MidLine};
 use std::alloc::{AllocError, Global};
 use std::marker::Model;
-use std::mem;
 
 /// The most instructions of a function.
 const MOST_INSTRUCTIONS: usize = 65_535;
@@ -108,7 +107,10 @@ impl Code {
     }
 
     /// An instruction more, unless there are too many.
-    fn draft(&mut self, draft: Draft) -> Result<(), AllocError> {
+    fn draft(&mut self, draft: Draft) -> Result<(), AllocError>
+        requires { IsBelow (length self.old.loops) draft }
+        ensures { OnOk result ((leads : List Leads) → code_of self.new leads ≡ with_line (line_of (leads_in self.old leads) draft) (code_of self.old leads)) }
+    {
         if self.drafts.len() >= MOST_INSTRUCTIONS {
             self.is_long = true;
             return Ok(());
@@ -130,7 +132,8 @@ impl Code {
 
     /// A jump behind the innermost loop.
     pub(crate) fn emit_break(&mut self, line: u32) -> Result<(), AllocError>
-        ensures { OnOk result ((leads : List Leads) → code_of self.new leads ≡ with_line (at_line line (mid_of.Jump (leads_of leads).break_at)) (code_of self.old leads)) }
+        ensures { OnOk result
+            ((leads : List Leads) → code_of self.new leads ≡ with_line (at_line line (mid_of.Jump (leads_of leads).break_at)) (code_of self.old leads)) }
     {
         self.draft(Draft {
             line,
@@ -141,7 +144,8 @@ impl Code {
 
     /// A jump to the next round of the innermost loop.
     pub(crate) fn emit_continue(&mut self, line: u32) -> Result<(), AllocError>
-        ensures { OnOk result ((leads : List Leads) → code_of self.new leads ≡ with_line (at_line line (mid_of.Jump (leads_of leads).continue_at)) (code_of self.old leads)) }
+        ensures { OnOk result
+            ((leads : List Leads) → code_of self.new leads ≡ with_line (at_line line (mid_of.Jump (leads_of leads).continue_at)) (code_of self.old leads)) }
     {
         self.draft(Draft {
             line,
@@ -154,10 +158,16 @@ impl Code {
     pub(crate) fn lead(&mut self, at: u32, place: u32)
         ensures { (leads : List Leads) → code_of self.new leads ≡ option_map (landed at place) (code_of self.old leads) }
     {
-        if let Some(draft) = self.drafts.get_mut(at as usize) {
-            draft.mid = led(draft.mid, place);
-            draft.target = Target::Known;
+        let at = at as usize;
+        if at >= self.drafts.len() {
+            return;
         }
+        let draft = self.drafts[at];
+        self.drafts[at] = Draft {
+            line: draft.line,
+            mid: led(draft.mid, place),
+            target: Target::Known,
+        };
     }
 
     /// A loop begins. The code so far has none of its jumps.
@@ -166,30 +176,30 @@ impl Code {
     {
         let number = self.loops.len();
         self.loops.push(UNKNOWN)?;
-        self.outer.push(mem::replace(&mut self.current, number))?;
+        self.outer.push(self.current)?;
+        self.current = number;
         Ok(())
     }
 
     /// The innermost loop ends: it is known where its jumps lead.
     pub(crate) fn end_loop(&mut self, break_at: u32, continue_at: u32) -> Result<(), AllocError>
-        ensures {
-            OnOk result
-                ((leads : List Leads) → code_of self.new leads ≡ code_of self.old (record { break_at = break_at; continue_at = continue_at } ∷ leads))
-        }
+        ensures { OnOk result
+            ((leads : List Leads) → code_of self.new leads ≡ code_of self.old (record { break_at = break_at; continue_at = continue_at } ∷ leads)) }
     {
-        if let Some(places) = self.loops.get_mut(self.current) {
-            *places = Places {
-                break_at,
-                continue_at,
-            };
-        }
+        let places = Places {
+            break_at,
+            continue_at,
+        };
         match self.outer.pop() {
             Some(number) => {
+                self.loops[self.current] = places;
                 self.current = number;
             }
             None => {
-                self.current = self.loops.len();
+                let number = self.loops.len();
                 self.loops.push(UNKNOWN)?;
+                self.loops[self.current] = places;
+                self.current = number;
             }
         }
         Ok(())
@@ -212,7 +222,9 @@ impl Code {
 
 impl Draft {
     /// The instruction, where each loop has its places.
-    fn at(&self, loops: &[Places]) -> MidLine {
+    fn at(&self, loops: &[Places]) -> MidLine
+        ensures { line_view result ≡ line_of (known_leads loops.now) self.now }
+    {
         let mid = match self.target {
             Target::Known => self.mid,
             Target::Break(number) => led(self.mid, places_of(loops, number).break_at),
@@ -226,6 +238,8 @@ impl Draft {
 }
 
 /// Where the jumps of a loop lead.
-fn places_of(loops: &[Places], number: usize) -> Places {
+fn places_of(loops: &[Places], number: usize) -> Places
+    ensures { result ≡ places_by loops.now number }
+{
     loops.get(number).copied().unwrap_or(UNKNOWN)
 }
