@@ -1,9 +1,11 @@
+mod Accesses
 mod Closing
 mod Emitted
 mod EntityValues
 mod FunctionTypes
 mod Growing
 mod OpenLoops
+mod PointedTypes
 mod RunSteps
 mod StartingObjects
 mod Steps

@@ -1,16 +1,11 @@
-use Rattle.std.proofs.Common.{rules, ◌≡◌, ℕ, List, ◌+◌, ◌-◌, ◌*◌, ◌<◌, ◌≤◌, length, ◌/◌, ◌%◌, Bool, true, false, nat_eq, nat_lt, [], ◌∷◌, ◌++◌, slice_index_or, slice_set, bit_and, bit_or, Fits, w8, w32, w64, Bor, MutBor}
-use Rattle.c_types.specs.declared.type_ref.Row.{Row}
-use Rattle.mid_code.specs.declared.mid.Mid.TheVariants as mid_of
-use Rattle.lower.specs.Expressions.{load_of as load_from}
-use Rattle.lower.specs.Expressions.{store_of as store_to}
-use Rattle.lower.specs.Expressions.{fetches, puts, assigned, object_in, local_in}
-use Rattle.lower.specs.Emits.{Emits, itself, nothing, rows_of, types_of, located_view}
+use Rattle.std.proofs.Common.{refl}
+use Rattle.lower.proofs.Steps.{step, stop, exits, given}
 use Rattle.lower.proofs.emitter.Emitter.assign.Goals as goal
 
 -- src/places.rt:78:9
 pub returns-in_err-put : goal.returns-in_err-put
-returns-in_err-put c = ?
+returns-in_err-put c = λ rows. stop _ refl (exits c.from_residual.result _ c.from_residual.ensures.1) (c.in_err-put.ensures rows)
 
 -- src/places.rt:70:5
 pub returns : goal.returns
-returns c = ?
+returns c = λ rows. step _ refl (c.in_ok-put.ensures rows) given

@@ -1,29 +1,26 @@
-use Rattle.std.proofs.Common.{rules, ◌≡◌, ℕ, List, ◌+◌, ◌-◌, ◌*◌, ◌<◌, ◌≤◌, length, ◌/◌, ◌%◌, Bool, true, false, nat_eq, nat_lt, [], ◌∷◌, ◌++◌, slice_index_or, slice_set, bit_and, bit_or, Fits, w8, w32, w64, Bor, MutBor}
-use Rattle.srmt_base.specs.declared.op.Op.TheVariants as op_is
-use Rattle.c_types.specs.declared.type_ref.Row.{Row}
-use Rattle.lower.specs.Emitting.{target_for as target_of_type}
-use Rattle.lower.specs.Expressions.{constant_to, constant_in, zero_for, converts}
-use Rattle.lower.specs.Expressions.{converted as converted_to}
-use Rattle.lower.specs.Expressions.{computed, minus_of, complement_of, compared_with_null, compared_with_zero}
-use Rattle.lower.specs.Expressions.{negated as negated_by}
-use Rattle.lower.specs.Expressions.{truth_of, pointers_subtracted, pointers_compared}
-use Rattle.lower.specs.Expressions.{compared as compared_by}
-use Rattle.lower.specs.Expressions.{function_in, pointer_moved, moves_pointer}
-use Rattle.lower.specs.Emits.{Emits, itself, nothing, rows_of, types_of}
+use Rattle.std.proofs.Common.{refl, sym, ap, Err, ◌∙◌}
+use Rattle.lower.specs.Emitting.{temporary}
+use Rattle.lower.proofs.Steps.{step, stop, exits, memory, same-making}
 use Rattle.lower.proofs.emitter.Emitter.complement.Goals as goal
 
 -- src/operators.rt:189:35
 pub returns-in_err-behind : goal.returns-in_err-behind
-returns-in_err-behind c = ?
+returns-in_err-behind c = λ rows. memory (exits c.from_residual.result _ c.from_residual.ensures.1 ∙ ap Err c.in_err-behind.ensures.memory)
 
 -- src/operators.rt:189:20
 pub returns-in_err-ones : goal.returns-in_err-ones
-returns-in_err-ones c = ?
+returns-in_err-ones c =
+    λ rows. stop _ refl (exits c.from_residual-in_err-ones.result _ c.from_residual-in_err-ones.ensures.1)
+    (same-making (ap (λ n. temporary n c.args.line) (sym c.in_ok-behind.ensures.next)) (c.in_err-ones.ensures rows))
 
 -- src/operators.rt:190:9
 pub returns-in_err-emit : goal.returns-in_err-emit
-returns-in_err-emit c = ?
+returns-in_err-emit c =
+    λ rows. step _ refl (same-making (ap (λ n. temporary n c.args.line) (sym c.in_ok-behind.ensures.next)) (c.in_ok-ones.ensures rows)) (stop _ refl
+    (exits c.from_residual-in_err-emit.result _ c.from_residual-in_err-emit.ensures.1) (c.in_err-emit.ensures rows))
 
 -- src/operators.rt:180:5
 pub returns : goal.returns
-returns c = ?
+returns c =
+    λ rows. step _ refl (same-making (ap (λ n. temporary n c.args.line) (sym c.in_ok-behind.ensures.next)) (c.in_ok-ones.ensures rows)) (step _ refl
+    (c.in_ok-emit.ensures rows) (c.compute.ensures rows))

@@ -1,17 +1,18 @@
-use Rattle.std.proofs.Common.{rules, ◌≡◌, ℕ, suc, if◌then◌else◌, List, ◌+◌, ◌-◌, ◌*◌, ◌<◌, ◌≤◌, length, ◌/◌, ◌%◌, Bool, true, false, nat_eq, nat_lt, [], ◌∷◌, ◌++◌, slice_index_or, slice_set, bit_and, bit_or, Fits, w8, w32, w64, Bor, MutBor}
-use Rattle.c_types.specs.declared.type_ref.Row.{Row}
-use Rattle.lower.specs.Expressions.{changing_integer, changing_pointer, widened, changed_to, integer_changed, pointer_changed}
-use Rattle.lower.specs.Emits.{Emits, itself, rows_of, types_of, located_view, change_view}
+use Rattle.std.proofs.Common.{refl, ap, true, false}
+use Rattle.lower.specs.Emitting.{pure}
+use Rattle.lower.proofs.Steps.{step, stop, exits, given, same-making}
 use Rattle.lower.proofs.emitter.Emitter.end_change.Goals as goal
 
 -- src/changes.rt:103:9
 pub returns-in_err-put : goal.returns-in_err-put
-returns-in_err-put c = ?
+returns-in_err-put c = λ rows. stop _ refl (exits c.from_residual.result _ c.from_residual.ensures.1) (c.in_err-put.ensures rows)
 
 -- src/changes.rt:93:5
 pub returns-then-is_after : goal.returns-then-is_after
-returns-then-is_after c = ?
+returns-then-is_after c =
+    λ rows. step _ refl (c.in_ok-put.ensures rows) (same-making (ap (λ b. pure (if b then c.args.old else c.args.new)) c.if-is_after.true) given)
 
 -- src/changes.rt:93:5
 pub returns-else-is_after : goal.returns-else-is_after
-returns-else-is_after c = ?
+returns-else-is_after c =
+    λ rows. step _ refl (c.in_ok-put.ensures rows) (same-making (ap (λ b. pure (if b then c.args.old else c.args.new)) c.if-is_after.false) given)

@@ -1,13 +1,11 @@
-use Rattle.std.proofs.Common.{rules, ◌≡◌, ℕ, suc, if◌then◌else◌, List, ◌+◌, ◌-◌, ◌*◌, ◌<◌, ◌≤◌, length, ◌/◌, ◌%◌, Bool, true, false, nat_eq, nat_lt, [], ◌∷◌, ◌++◌, slice_index_or, slice_set, bit_and, bit_or, Fits, w8, w32, w64, Bor, MutBor}
-use Rattle.c_types.specs.declared.type_ref.Row.{Row}
-use Rattle.lower.specs.Expressions.{changing_integer, changing_pointer, widened, changed_to, integer_changed, pointer_changed}
-use Rattle.lower.specs.Emits.{Emits, itself, rows_of, types_of, located_view, change_view}
+use Rattle.std.proofs.Common.{refl}
+use Rattle.lower.proofs.Steps.{step, stop, exits}
 use Rattle.lower.proofs.emitter.Emitter.end_move.Goals as goal
 
 -- src/changes.rt:153:21
 pub returns-in_err-moved : goal.returns-in_err-moved
-returns-in_err-moved c = ?
+returns-in_err-moved c = stop _ refl (exits c.from_residual.result _ c.from_residual.ensures.1) (c.in_err-moved.ensures)
 
 -- src/changes.rt:137:5
 pub returns : goal.returns
-returns c = ?
+returns c = step _ refl (c.in_ok-moved.ensures) (c.end_change.ensures _)

@@ -1,17 +1,17 @@
-use Rattle.std.proofs.Common.{rules, ◌≡◌, ℕ, suc, if◌then◌else◌, List, ◌+◌, ◌-◌, ◌*◌, ◌<◌, ◌≤◌, length, ◌/◌, ◌%◌, Bool, true, false, nat_eq, nat_lt, [], ◌∷◌, ◌++◌, slice_index_or, slice_set, bit_and, bit_or, Fits, w8, w32, w64, Bor, MutBor}
-use Rattle.c_types.specs.declared.type_ref.Row.{Row}
-use Rattle.lower.specs.Expressions.{changing_integer, changing_pointer, widened, changed_to, integer_changed, pointer_changed}
-use Rattle.lower.specs.Emits.{Emits, itself, rows_of, types_of, located_view, change_view}
+use Rattle.std.proofs.Common.{refl}
+use Rattle.lower.proofs.Steps.{step, stop, exits}
 use Rattle.lower.proofs.emitter.Emitter.end_update.Goals as goal
 
 -- src/changes.rt:122:9
 pub returns-in_err-emit : goal.returns-in_err-emit
-returns-in_err-emit c = ?
+returns-in_err-emit c = λ rows. stop _ refl (exits c.from_residual.result _ c.from_residual.ensures.1) (c.in_err-emit.ensures rows)
 
 -- src/changes.rt:132:9
 pub returns-in_err-convert : goal.returns-in_err-convert
-returns-in_err-convert c = ?
+returns-in_err-convert c =
+    λ rows. step _ refl (c.in_ok-emit.ensures rows) (stop _ refl (exits c.from_residual-in_err-convert.result _ c.from_residual-in_err-convert.ensures.1)
+    (c.in_err-convert.ensures rows))
 
 -- src/changes.rt:108:5
 pub returns : goal.returns
-returns c = ?
+returns c = λ rows. step _ refl (c.in_ok-emit.ensures rows) (step _ refl (c.in_ok-convert.ensures rows) (c.end_change.ensures rows))

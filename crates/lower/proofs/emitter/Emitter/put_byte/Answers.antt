@@ -1,16 +1,11 @@
-use Rattle.std.proofs.Common.{rules, ◌≡◌, ℕ, List, ◌+◌, ◌-◌, ◌*◌, ◌<◌, ◌≤◌, length, ◌/◌, ◌%◌, Bool, true, false, nat_eq, nat_lt, [], ◌∷◌, ◌++◌, slice_index_or, slice_set, bit_and, bit_or, Fits, w8, w32, w64, Bor, MutBor}
-use Rattle.c_types.specs.declared.type_ref.Row.{Row}
-use Rattle.c_types.specs.Types.{target_of}
-use Rattle.mid_code.specs.Registers.{registers_list}
-use Rattle.lower.specs.Emitting.{type_number as number_of_type}
-use Rattle.lower.specs.Expressions.{called, called_through, byte_put, byte_got, left_by}
-use Rattle.lower.specs.Emits.{Emits, itself, rows_of, types_of}
+use Rattle.std.proofs.Common.{refl}
+use Rattle.lower.proofs.Steps.{step, stop, exits}
 use Rattle.lower.proofs.emitter.Emitter.put_byte.Goals as goal
 
 -- src/calls.rt:92:9
 pub returns-in_err-emit : goal.returns-in_err-emit
-returns-in_err-emit c = ?
+returns-in_err-emit c = λ rows. stop _ refl (exits c.from_residual.result _ c.from_residual.ensures.1) (c.in_err-emit.ensures rows)
 
 -- src/calls.rt:84:5
 pub returns : goal.returns
-returns c = ?
+returns c = λ rows. step _ refl (c.in_ok-emit.ensures rows) (c.converted.ensures rows)

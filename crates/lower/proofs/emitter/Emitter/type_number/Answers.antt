@@ -1,12 +1,12 @@
-use Rattle.std.proofs.Common.{rules, ◌≡◌, ℕ, List, ◌+◌, ◌-◌, ◌*◌, ◌<◌, ◌≤◌, length, ◌/◌, ◌%◌, Bool, true, false, nat_eq, nat_lt, [], ◌∷◌, ◌++◌, slice_index_or, slice_set, bit_and, bit_or, Fits, w8, w32, w64, Bor, MutBor}
-use Rattle.c_types.specs.declared.type_ref.Row.{Row}
-use Rattle.c_types.specs.Types.{target_of}
-use Rattle.mid_code.specs.Registers.{registers_list}
 use Rattle.lower.specs.Emitting.{type_number as number_of_type}
-use Rattle.lower.specs.Expressions.{called, called_through, byte_put, byte_got, left_by}
-use Rattle.lower.specs.Emits.{Emits, itself, rows_of, types_of}
+use Rattle.lower.specs.Emits.{itself}
+use Rattle.c_types.specs.Table.{type_at}
+use Rattle.lower.specs.Emits.{Allots, itself}
+use Rattle.lower.proofs.Emitted.{no-code}
 use Rattle.lower.proofs.emitter.Emitter.type_number.Goals as goal
 
 -- src/calls.rt:18:5
 pub returns : goal.returns
-returns c = ?
+returns c =
+    no-code (subst (λ r. Allots itself r c.args.self.now.allotted c.type_number.new.self c.type_number.result (number_of_type (type_at r c.args.of)))
+    c.types.ensures c.type_number.ensures)

@@ -1,13 +1,11 @@
-use Rattle.std.proofs.Common.{rules, ◌≡◌, ℕ, suc, if◌then◌else◌, List, ◌+◌, ◌-◌, ◌*◌, ◌<◌, ◌≤◌, length, ◌/◌, ◌%◌, Bool, true, false, nat_eq, nat_lt, [], ◌∷◌, ◌++◌, slice_index_or, slice_set, bit_and, bit_or, Fits, w8, w32, w64, Bor, MutBor}
-use Rattle.c_types.specs.declared.type_ref.Row.{Row}
-use Rattle.lower.specs.Expressions.{changing_integer, changing_pointer, widened, changed_to, integer_changed, pointer_changed}
-use Rattle.lower.specs.Emits.{Emits, itself, rows_of, types_of, located_view, change_view}
+use Rattle.std.proofs.Common.{refl}
+use Rattle.lower.proofs.Steps.{step, stop, exits, given}
 use Rattle.lower.proofs.emitter.Emitter.widen.Goals as goal
 
 -- src/changes.rt:88:9
 pub returns-in_err-convert : goal.returns-in_err-convert
-returns-in_err-convert c = ?
+returns-in_err-convert c = λ rows. stop _ refl (exits c.from_residual.result _ c.from_residual.ensures.1) (c.in_err-convert.ensures rows)
 
 -- src/changes.rt:79:5
 pub returns : goal.returns
-returns c = ?
+returns c = λ rows. step _ refl (c.in_ok-convert.ensures rows) given
