@@ -4,3 +4,5 @@ mod RunSteps
 mod Steps
 mod Targets
 mod OpenLoops
+mod BeginSteps
+mod Blocks
