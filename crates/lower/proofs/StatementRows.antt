@@ -33,6 +33,11 @@ block_parts types b =
     ap (block_view types) (sym (code_block.rolls-Block' (record { line = b.line; items = b.items; end = b.end })))
     ∙ view.view_items types b.line b.items b.end
 
+-- what comes behind the test of an `if`
+abbrev pub if_rest : Inside → (TypeRef → CType) → ℕ → code_stmt.Stmt → Option code_stmt.Stmt → ℕ → Making (Unit {0})
+if_rest i types line a None r = wrapped (jumped line (mid.JumpZ r)) (lowers i (stmt_view types a))
+if_rest i types line a (Some b) r = two_ways line (mid.JumpZ r) (lowers i (stmt_view types a)) (λ done. lowers i (stmt_view types b))
+
 module _ (i : Inside) (types : TypeRef → CType) (x : code_stmt.Stmt) where
   by_node : (n : code_stmt_node.StmtNode) (m : ℕ → Stmt) → x.node ≡ n → ((line : ℕ) → stmt_node_view types n line ≡ m line)
       → lowers i (stmt_view types x) ≡ lowers i (m x.line)
@@ -64,6 +69,11 @@ module _ (i : Inside) (types : TypeRef → CType) (x : code_stmt.Stmt) where
   unfolding lowers
   if_else-row e a b is =
       by_node (sn.If e a (Some b)) (λ line. tree.if_else line (value_view types e) (stmt_view types a) (stmt_view types b)) is (view.view_if_else types e a b)
+
+  pub if-row : (e : v.Value) (a : code_stmt.Stmt) (otherwise : Option code_stmt.Stmt) → x.node ≡ sn.If e a otherwise → lowers i (stmt_view types x)
+      ≡ (value_of i (value_view types e) 0 >>= if_rest i types x.line a otherwise)
+  if-row e a None is = if_only-row e a is
+  if-row e a (Some b) is = if_else-row e a b is
 
   pub while-row : (e : v.Value) (a : code_stmt.Stmt) → x.node ≡ sn.While e a
       → lowers i (stmt_view types x) ≡ looped i x.line (Some (value_view types e)) (lowers i (stmt_view types a)) None
