@@ -13,7 +13,7 @@ use Rattle.c_types.specs.Table.{type_at, Stands}
 use Rattle.lower.specs.declared.allotted.Allotted.{Allotted as CodeAllotted}
 use Rattle.lower.specs.declared.refusal.LowerRefusal.{LowerRefusal}
 use Rattle.lower.specs.declared.refusal.LowerRefusal.TheVariants.{TooManyRegisters, TooLong, Memory}
-use Rattle.lower.specs.Emitting.{◌⨟◌, no_code, Allotted, Made, Making, made, behind, and_then, ◌>>=◌, ◌>>◌, pure, becomes, new, temporary, type_number}
+use Rattle.lower.specs.Emitting.{◌⨟◌, no_code, Allotted, Made, Making, made, behind, and_then, ◌>>=◌, ◌>>◌, pure, becomes, new, temporary, with_type, type_number}
 use Rattle.lower.specs.Emits.{AllStand, allotted_view, Settles, AllotsAs, Allots, itself}
 use Rattle.lower.proofs.FunctionTypes.{same_reference, inserted-types, inserted-stand, inserted-place}
 
@@ -42,9 +42,9 @@ used-again {rows} {old} k line r h =
     }
 
 -- there is no register for it
-pub none-left : {rows : List Row} {old new : CodeAllotted} (k line : ℕ) {r : Result ℕ LowerRefusal} {e : LowerRefusal}
-    → slice_get old.temporaries.items k ≡ None → r ≡ Err e → Allots itself rows old new (Err e) (new Number line)
-    → Allots itself rows old new r (temporary k line)
+pub none-left : {rows : List Row} {old after : CodeAllotted} (k line : ℕ) {r : Result ℕ LowerRefusal} {e : LowerRefusal}
+    → slice_get old.temporaries.items k ≡ None → r ≡ Err e → Allots itself rows old after (Err e) (new Number line)
+    → Allots itself rows old after r (temporary k line)
 none-left {rows} {old} {after} k line {r} {e} h is refused =
     subst (λ s. Allots itself rows old after s (temporary k line)) (sym is) (record { is = by e refused.is })
   where
@@ -59,6 +59,7 @@ pub first-used : {rows : List Row} {old mid : CodeAllotted} {temporaries : Vec �
     → slice_get old.temporaries.items k ≡ None → Allots itself rows old mid (Ok r) (new Number line)
     → temporaries.items ≡ mid.temporaries.items ++ r ∷ []
     → Allots itself rows old (record { kinds = mid.kinds; temporaries = temporaries; homes = mid.homes; types = mid.types }) (Ok r) (temporary k line)
+unfolding ◌>>=◌
 first-used {rows} {old} {mid} {temporaries} k line r h register pushed =
     record {
       is =
@@ -70,7 +71,6 @@ first-used {rows} {old} {mid} {temporaries} k line r h register pushed =
     after = record { kinds = mid.kinds; temporaries = temporaries; homes = mid.homes; types = mid.types }
 
     by : (c : Result (Made ℕ) ℕ) → Settles rows c r mid → Settles rows (behind no_code (and_then c with_temporary)) r after
-    unfolding ◌>>=◌
     by (Ok m) s =
         (s.0,
         (λ i. record (s.1 i) { temporaries = (s.1 i).temporaries ++ s.0 i ∷ [] })
@@ -95,5 +95,5 @@ numbered rows r t stands one {old} {after} {n} kinds temporaries homes keys at =
           subst (AllStand rows) (sym keys) (inserted-stand rows r t stands one old.types.keys stand));
     }
   where
-    are : AllStand rows old.types.keys → map (type_at rows) after.types.keys ≡ _
+    are : AllStand rows old.types.keys → map (type_at rows) after.types.keys ≡ with_type t (map (type_at rows) old.types.keys)
     are stand = ap (map (type_at rows)) keys ∙ inserted-types rows r t stands one old.types.keys stand

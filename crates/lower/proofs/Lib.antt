@@ -9,3 +9,5 @@ mod StartingObjects
 mod Steps
 mod Targets
 mod Allotting
+mod EntityNumbers
+mod PlacesFound
