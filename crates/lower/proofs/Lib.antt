@@ -1,3 +1,4 @@
 mod Growing
+mod Jumping
 mod Landing
 mod Steps
