@@ -6,3 +6,4 @@ mod Targets
 mod OpenLoops
 mod BeginSteps
 mod Blocks
+mod LocalSteps
