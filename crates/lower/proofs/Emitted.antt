@@ -1,5 +1,5 @@
 -- What the emitter's own steps make: an instruction stands behind the code, or something is allotted and no code is made.
-use Rattle.std.proofs.Common.{◌≡◌, ℕ, List, [], ◌∷◌, map, Option, Some, None, Result, Ok, Err, refl, sym, ap, subst, ◌∙◌}
+use Rattle.std.proofs.Common.{◌≡◌, ℕ, List, [], ◌∷◌, map, Some, None, Result, Ok, Err, refl, sym, ap, subst, ◌∙◌}
 use Rattle.std.specs.Prelude.{slice_index, slice_set}
 use Rattle.mid_code.specs.declared.mid.Mid.{Mid}
 use Rattle.c_types.specs.declared.type_ref.Row.{Row}

@@ -1,5 +1,5 @@
 -- Where a place is, by its node.
-use Rattle.std.proofs.Common.{◌≡◌, ◌∙◌, ℕ, Bool, true, false, if◌then◌else◌, refl, sym, ap, ◌⊎◌, inl, inr}
+use Rattle.std.proofs.Common.{◌≡◌, ◌∙◌, ℕ, Bool, if◌then◌else◌, sym, ap, ◌⊎◌, inl, inr}
 use Rattle.c_typed.specs.declared.program.LocalRow.{LocalRow as CodeLocalRow}
 use Rattle.c_typed.specs.declared.value.Value as v
 use Rattle.c_typed.specs.declared.value.Place as p
@@ -7,7 +7,7 @@ use Rattle.c_typed.specs.declared.value.PlaceNode as code_place_node
 use Rattle.c_typed.specs.declared.value.PlaceNode.TheVariants as pn
 use Rattle.c_typed.specs.Statements.{LocalRow}
 use Rattle.c_typed.specs.StatementViews.{row_view}
-use Rattle.c_typed.specs.Typed.{Place, place, PlaceNode, local, static, text, pointed, element}
+use Rattle.c_typed.specs.Typed.{place, PlaceNode, local, static, text, pointed, element}
 use Rattle.c_typed.specs.Views.{value_view, place_view, place_node_view, qualified_from}
 use Rattle.c_typed.proofs.ViewLaws as view
 use Rattle.lower.specs.declared.inside.Inside.{Inside as CodeInside}
