@@ -1,3 +1,4 @@
+mod Deciding
 mod Growing
 mod Jumping
 mod Landing
