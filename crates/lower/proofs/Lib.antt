@@ -7,3 +7,4 @@ mod EntityValues
 mod FunctionTypes
 mod Targets
 mod OpenLoops
+mod LoweredFunctions
