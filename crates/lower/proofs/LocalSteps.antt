@@ -194,7 +194,9 @@ none-begin i rows s all is =
 -- ---- what is left in a loop
 
 pub rest-at : {X : Type 0} (xs : List X) (k : ℕ) (x : X) → k < length xs → x ≡ get_or xs k x → drop k xs ≡ x ∷ drop (k + 1) xs
-rest-at xs k x within is = drop-cons xs k x within ∙ ap (λ y. y ∷ drop (k + 1) xs) (sym is)
+rest-at xs k x within is =
+    let next : k + 1 ≡ suc k = omega arith in
+    drop-cons xs k x within ∙ ap (λ y. y ∷ drop (suc k) xs) (sym is) ∙ ap (λ j. x ∷ drop j xs) (sym next)
 
 module _ (types : TypeRef → CType) where
   -- the numbers of the locals of a declaration, and of items of a block
