@@ -1,4 +1,4 @@
-ghost use Rattle.std.specs.Prelude.{◌≡◌, replicate, slice_set, map, IfOk, IfErr};
+ghost use Rattle.std.specs.Prelude.{◌≡◌, ◌≤◌, replicate, slice_set, map, IfOk, IfErr};
 ghost use Rattle.c_types.specs.Table.{type_at};
 ghost use Rattle.c_typed.specs.StatementViews.{program_view, static_view};
 ghost use Rattle.srmt_base.specs.Convert.{convert_of};
@@ -18,7 +18,8 @@ use std::alloc::{AllocError, Global};
 
 /// What an entity is: the number of a function, or the address of an object.
 fn value_of_entity(program: &TypedProgram, entity: u32) -> u64
-    ensures { result ≡ entity_of (program_view program.now) entity }
+    ensures value { result ≡ entity_of (program_view program.now) entity }
+    ensures small { result ≤ 281474976710656 }
 {
     match program.entities.as_slice().get(entity as usize) {
         None => 0,
