@@ -3,7 +3,7 @@ import subprocess,sys,re,os
 f=sys.argv[1]; mine=sys.argv[2:]
 os.chdir('/work/scratch/lowF/crates/lower')
 for it in range(6):
-    r=subprocess.run(['rt','check','--only',f,'--allow-holes'],capture_output=True,text=True)
+    r=subprocess.run(['timeout','200','rt','check','--only',f,'--allow-holes'],capture_output=True,text=True)
     out=r.stdout+r.stderr
     lines=out.split('\n'); n=0
     i=0

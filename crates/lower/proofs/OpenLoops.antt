@@ -1,16 +1,18 @@
 -- Where loops lead by their numbers, as loops begin and end.
-use Rattle.std.proofs.Common.{◌≡◌, ◌<◌, ◌≤◌, ◌==◌, ℕ, suc, ◌+◌, Bool, true, false, if◌then◌else◌, List, [], ◌∷◌, ◌++◌, length, get_or, set, refl, sym, ◌∙◌, ap, subst, arith}
-use Rattle.std.proofs.lemmas.List.{get_or_append_left, get_or_push, get_or-set_same, get_or-set_other, set-append_left, length-set, length_push, reverse-append}
+use Rattle.std.proofs.Common.{◌≡◌, ◌<◌, ◌≤◌, ◌==◌, ℕ, ◌+◌, Bool, true, false, if◌then◌else◌, List, [], ◌∷◌, ◌++◌, length, set, Some, refl, sym, ◌∙◌, ap, subst, arith}
+use Rattle.std.proofs.lemmas.List.{get_or_append_left, get_or_push, get_or-set_same, get_or-set_other, set-append_left}
+use Rattle.std.proofs.lemmas.List.{length-set, length_push, reverse-append}
 use Rattle.std.specs.Prelude.{All, reverse, map}
 use Rattle.std.proofs.lemmas.List.Elements.{All-weaker}
-use Rattle.std.proofs.lemmas.Bool.{eq-eqb, ne_eqb, eqb-true, eqb-false}
+use Rattle.std.proofs.lemmas.Bool.{ne_eqb, eqb-true, eqb-false, true≢false}
 use Rattle.mid_code.specs.declared.mid.Mid.{Mid}
 use Rattle.lower.specs.declared.code.Places.{Places}
+use Rattle.lower.specs.Emitting.{Line}
 use Rattle.lower.specs.SoFar.{Leads, leads_of, leads_around, no_leads}
 use Rattle.lower.specs.declared.code.Draft.{Draft}
 use Rattle.lower.specs.declared.code.Target.{Target}
 use Rattle.lower.specs.declared.code.Target.TheVariants.{Known, Break, Continue}
-use Rattle.lower.specs.Drafts.{Held, IsHeld, leads_view, places_by, known_leads, leads_by, line_of, lines_if, IsBelow, OpenBelow}
+use Rattle.lower.specs.Drafts.{IsHeld, leads_view, known_leads, leads_by, line_of, lines_if, IsBelow, OpenBelow}
 use Rattle.lower.proofs.Targets.{same-lines}
 
 abbrev unknown : Places
@@ -98,7 +100,7 @@ ended loops m p numbers leads n within below = by (n == m) refl
 -- ---- the end
 
 -- where those that are open lead to nothing
-pub leads-known : (loops : List Places) (bound : ℕ) (numbers : List ℕ) (n : ℕ)
+leads-known : (loops : List Places) (bound : ℕ) (numbers : List ℕ) (n : ℕ)
     → OpenBelow loops bound numbers → leads_by loops numbers [] n ≡ known_leads loops n
 leads-known loops bound [] n h = refl
 leads-known loops bound (m ∷ numbers) n h = by (n == m) refl (leads-known loops m numbers n h.2)
@@ -155,6 +157,17 @@ last-lines ds b loops loops-2 number current outer outer-2 p leads more is none 
     (length loops) (λ n h. last-ended loops number current n p leads is within h) ds below)
     ∙ ap (λ (xs : List ℕ). lines_if b (map (line_of (leads_by loops (current ∷ reverse xs) (leads_view p ∷ leads))) ds)) (sym none)
 
+-- at the end it is known where each loop leads
+pub known-lines : (ds : List Draft) (b : Bool) (loops : List Places) (current : ℕ) (outer : List ℕ) (ls : List Line)
+    → b ≡ false → ls ≡ map (line_of (known_leads loops)) ds
+    → IsHeld (record { is_long = b; loops = loops; current = current; outer = outer; drafts = ds })
+    → lines_if b (map (line_of (leads_by loops (current ∷ reverse outer) [])) ds) ≡ Some ls
+known-lines ds true loops current outer ls short is h = absurd (true≢false short)
+known-lines ds false loops current outer ls short is h =
+    ap Some
+    (same-lines (leads_by loops (current ∷ reverse outer) []) (known_leads loops) (length loops)
+    (λ n _. leads-known loops (length loops) (current ∷ reverse outer) n h.opened) ds h.below ∙ sym is)
+
 -- ---- what always holds
 
 below-weaker : (a b line : ℕ) (m : Mid) (t : Target) → a ≤ b → IsBelow a (record { line = line; mid = m; target = t })
@@ -178,8 +191,8 @@ held-begun ds b loops loops-2 number current outer outer-2 more is added h =
       full = h.full;
       below = drafts-weaker (length loops) (length loops-2) ds (omega arith) h.below;
       opened = subst (λ (z : List Places × ℕ × ℕ × List ℕ). OpenBelow z.0 z.1 (z.2 ∷ z.3))
-        (λ i. (sym more i, sym longer-2 i, sym is i, sym (ap reverse added ∙ last-first outer current) i))
-        (open-begun loops (current ∷ reverse outer) h.opened);
+          (λ i. (sym more i, sym longer-2 i, sym is i, sym (ap reverse added ∙ last-first outer current) i))
+          (open-begun loops (current ∷ reverse outer) h.opened);
     }
 
 pub held-more : (ds : List Draft) (b : Bool) (loops loops-2 : List Places) (current : ℕ) (outer outer-2 : List ℕ)
@@ -194,9 +207,9 @@ held-more ds b loops loops-2 current outer outer-2 more same h =
       full = h.full;
       below = drafts-weaker (length loops) (length loops-2) ds (omega arith) h.below;
       opened = subst (λ (z : List Places × ℕ × List ℕ). OpenBelow z.0 z.1 (current ∷ reverse z.2))
-        (λ i. (sym more i, sym longer-2 i, sym same i))
-        (open-weaker (loops ++ unknown ∷ []) (length loops) (length loops + 1) (current ∷ reverse outer) (omega arith)
-        (open-more loops unknown (length loops) (current ∷ reverse outer) (omega arith) h.opened));
+          (λ i. (sym more i, sym longer-2 i, sym same i))
+          (open-weaker (loops ++ unknown ∷ []) (length loops) (length loops + 1) (current ∷ reverse outer) (omega arith)
+          (open-more loops unknown (length loops) (current ∷ reverse outer) (omega arith) h.opened));
     }
 
 pub held-ended : (ds : List Draft) (b : Bool) (loops : List Places) (number current : ℕ) (outer outer-2 : List ℕ) (p : Places)
@@ -211,6 +224,6 @@ held-ended ds b loops number current outer outer-2 p taken h =
       full = h.full;
       below = drafts-weaker (length loops) (length (set loops current p)) ds (omega arith) h.below;
       opened = subst (OpenBelow (set loops current p) (length (set loops current p))) (ap reverse taken ∙ last-first outer-2 number)
-        (open-weaker (set loops current p) current (length (set loops current p)) (reverse outer) (omega arith)
-        (open-set loops current p current (reverse outer) (omega arith) h.opened.2));
+          (open-weaker (set loops current p) current (length (set loops current p)) (reverse outer) (omega arith)
+          (open-set loops current p current (reverse outer) (omega arith) h.opened.2));
     }

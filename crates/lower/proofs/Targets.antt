@@ -1,5 +1,5 @@
 -- The lines of drafts: they depend on where the loops lead that the drafts name, and grow and land as lines do.
-use Rattle.std.proofs.Common.{◌≡◌, ◌<◌, ◌≤◌, ℕ, zero, suc, Bool, true, false, List, [], ◌∷◌, ◌++◌, length, get_or, set, Option, Some, None, refl, sym, ◌∙◌, ap, arith}
+use Rattle.std.proofs.Common.{◌≡◌, ◌<◌, ◌≤◌, ℕ, zero, suc, Bool, true, false, List, [], ◌∷◌, ◌++◌, length, get_or, set, Some, None, refl, sym, ◌∙◌, ap, arith}
 use Rattle.std.specs.Prelude.{All, IsTrue, map, option_map, nat_lt}
 use Rattle.std.proofs.lemmas.List.{map-append, length-map}
 use Rattle.std.proofs.lemmas.List.Elements.{All-head, All-tail}
@@ -10,7 +10,7 @@ use Rattle.mid_code.specs.declared.mid.Mid.TheVariants as mid
 use Rattle.lower.specs.declared.code.Draft.{Draft}
 use Rattle.lower.specs.declared.code.Target.{Target}
 use Rattle.lower.specs.declared.code.Target.TheVariants.{Known, Break, Continue}
-use Rattle.lower.specs.Emitting.{Instruction, plain, calls, calls_through, Line}
+use Rattle.lower.specs.Emitting.{Instruction, plain, Line}
 use Rattle.lower.specs.SoFar.{Leads, leading_to, line_to, landed, with_line, if_room, IsHere, most_instructions}
 use Rattle.lower.specs.Instructions.{told, instruction_view}
 use Rattle.lower.specs.Drafts.{line_of, lines_if, IsBelow}
@@ -96,7 +96,8 @@ landed-past (suc at) place (l ∷ ls) h = ap (λ (xs : List Line). l ∷ xs) (la
 
 pub led-at : (f : ℕ → Leads) (place : ℕ) (m : Mid) (at : ℕ) (ds : List Draft) (d : Draft) (b : Bool) → at < length ds → d ≡ get_or ds at d
     → instruction_view m ≡ leading_to place (instruction_view d.mid)
-    → lines_if b (map (line_of f) (set ds at (record { line = d.line; mid = m; target = Known }))) ≡ option_map (landed at place) (lines_if b (map (line_of f) ds))
+    → lines_if b (map (line_of f) (set ds at (record { line = d.line; mid = m; target = Known })))
+    ≡ option_map (landed at place) (lines_if b (map (line_of f) ds))
 led-at f place m at ds d true within e is = refl
 led-at f place m at ds d false within e is =
     ap (λ (x : Draft). Some (map (line_of f) (set ds at (record { line = x.line; mid = m; target = Known })))) e

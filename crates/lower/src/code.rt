@@ -132,7 +132,8 @@ impl Code {
 
     /// A jump behind the innermost loop.
     pub(crate) fn emit_break(&mut self, line: u32) -> Result<(), AllocError>
-        ensures { OnOk result ((leads : List Leads) → code_of self.new leads ≡ with_line (at_line line (mid_of.Jump (leads_of leads).break_at)) (code_of self.old leads)) }
+        ensures { OnOk result
+            ((leads : List Leads) → code_of self.new leads ≡ with_line (at_line line (mid_of.Jump (leads_of leads).break_at)) (code_of self.old leads)) }
     {
         self.draft(Draft {
             line,
@@ -143,7 +144,8 @@ impl Code {
 
     /// A jump to the next round of the innermost loop.
     pub(crate) fn emit_continue(&mut self, line: u32) -> Result<(), AllocError>
-        ensures { OnOk result ((leads : List Leads) → code_of self.new leads ≡ with_line (at_line line (mid_of.Jump (leads_of leads).continue_at)) (code_of self.old leads)) }
+        ensures { OnOk result
+            ((leads : List Leads) → code_of self.new leads ≡ with_line (at_line line (mid_of.Jump (leads_of leads).continue_at)) (code_of self.old leads)) }
     {
         self.draft(Draft {
             line,
@@ -181,10 +183,8 @@ impl Code {
 
     /// The innermost loop ends: it is known where its jumps lead.
     pub(crate) fn end_loop(&mut self, break_at: u32, continue_at: u32) -> Result<(), AllocError>
-        ensures {
-            OnOk result
-                ((leads : List Leads) → code_of self.new leads ≡ code_of self.old (record { break_at = break_at; continue_at = continue_at } ∷ leads))
-        }
+        ensures { OnOk result
+            ((leads : List Leads) → code_of self.new leads ≡ code_of self.old (record { break_at = break_at; continue_at = continue_at } ∷ leads)) }
     {
         let places = Places {
             break_at,

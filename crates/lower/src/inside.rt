@@ -120,8 +120,11 @@ pub(crate) fn number_of_text(
     ensures same { IfOk result (λ n. n ≡ text_number (program_view program.now) part text) }
     ensures memory { IfErr result (λ e. e ≡ Memory) }
 {
-    let statics = file_of(program, part).statics.len() as u64;
-    let number = u64::from(first_number(part)) + statics + u64::from(text);
+    let statics = file_of(program, part).statics.len();
+    if statics > u32::MAX as usize {
+        return Err(LowerRefusal::Memory);
+    }
+    let number = u64::from(first_number(part)) + statics as u64 + u64::from(text);
     if number > u64::from(u32::MAX) {
         return Err(LowerRefusal::Memory);
     }

@@ -1,5 +1,6 @@
 ghost use Rattle.std.specs.Prelude.{◌≡◌, ℕ, List, [], ◌∷◌, map};
 ghost use Rattle.c_types.specs.declared.type_ref.Row.{Row};
+ghost use Rattle.c_typed.specs.Statements.{no_items};
 ghost use Rattle.c_typed.specs.StatementViews.{all_items, block_item_view, local_item_view};
 ghost use Rattle.source_meaning.specs.Statements.{locals_of, numbers_of};
 ghost use Rattle.lower.specs.Statements.{opens, begins, all_begin, begun_at};
@@ -66,6 +67,20 @@ pub(crate) fn begin_locals(
     Ok(())
 }
 
+/// The locals that an item of a block declares begin.
+fn begin_item(at: Inside, body: &mut Body, item: &BlockItem) -> Result<(), LowerRefusal>
+    ensures {
+        Begins nothing (rows_of at.entry)
+            (λ start. begun_at (inside_view at.entry).rows start (locals_of (block_item_view (types_of at.entry) item.now no_items))) body.old body.new
+            result (all_begin (inside_view at.entry) (locals_of (block_item_view (types_of at.entry) item.now no_items)))
+    }
+{
+    match item {
+        BlockItem::Declaration(locals) => begin_locals(at, body, locals.as_slice()),
+        BlockItem::Statement(_) => Ok(()),
+    }
+}
+
 /// The locals that a block declares itself begin.
 pub(crate) fn begin_block(
     at: Inside,
@@ -79,9 +94,7 @@ pub(crate) fn begin_block(
     }
 {
     for item in items {
-        if let BlockItem::Declaration(locals) = item {
-            begin_locals(at, body, locals.as_slice())?;
-        }
+        begin_item(at, body, item)?;
     }
     Ok(())
 }

@@ -19,6 +19,7 @@ unfolding code_of
 returns c = λ leads.
     let old = c.self.inside in
     let f = leads_in (the_view old) leads in
+    let drafts = old.drafts.items ++ c.args.draft ∷ [] in
     ap (λ (ds : List Draft). lines_if old.is_long (map (line_of f) ds)) c.in_ok-push.ensures.items
-    ∙ subst (λ (h : Held). lines_if old.is_long (map (line_of f) (old.drafts.items ++ c.args.draft ∷ [])) ≡ with_line (line_of (leads_in h leads) c.args.draft) (code_of h leads)) c.self.view_is
+    ∙ subst (λ (h : Held). lines_if old.is_long (map (line_of f) drafts) ≡ with_line (line_of (leads_in h leads) c.args.draft) (code_of h leads)) c.self.view_is
     (draft-more f c.args.draft old.drafts.items old.is_long c.self.invariant.full (omega (arith, old.drafts.ok.0)))

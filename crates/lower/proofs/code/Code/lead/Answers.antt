@@ -1,4 +1,4 @@
-use Rattle.std.proofs.Common.{◌≡◌, List, subst, arith}
+use Rattle.std.proofs.Common.{◌≡◌, subst, arith}
 use Rattle.std.specs.Prelude.{option_map, slice_set, map}
 use Rattle.lower.specs.declared.code.Target.TheVariants.{Known}
 use Rattle.lower.specs.SoFar.{landed}
@@ -20,6 +20,6 @@ returns c = λ leads.
     let old = c.self.inside in
     let f = leads_in (the_view old) leads in
     let d = c.index-draft.result.now in
-    subst (λ (h : Held). lines_if old.is_long (map (line_of f) (slice_set old.drafts.items c.args.at (record { line = d.line; mid = c.led.result; target = Known })))
-      ≡ option_map (landed c.args.at c.args.place) (code_of h leads)) c.self.view_is
+    let drafts = slice_set old.drafts.items c.args.at (record { line = d.line; mid = c.led.result; target = Known }) in
+    subst (λ (h : Held). lines_if old.is_long (map (line_of f) drafts) ≡ option_map (landed c.args.at c.args.place) (code_of h leads)) c.self.view_is
     (led-at f c.args.place c.led.result c.args.at old.drafts.items d old.is_long (omega (arith, old.drafts.ok.0)) c.index-draft.ensures c.led.ensures)
