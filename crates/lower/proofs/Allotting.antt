@@ -71,11 +71,13 @@ first-used {rows} {old} {mid} {temporaries} k line r h register pushed =
     after = record { kinds = mid.kinds; temporaries = temporaries; homes = mid.homes; types = mid.types }
 
     by : (c : Result (Made ℕ) ℕ) → Settles rows c r mid → Settles rows (behind no_code (and_then c with_temporary)) r after
-    by (Ok m) s =
-        (s.0,
-        (λ i. record (s.1 i) { temporaries = (s.1 i).temporaries ++ s.0 i ∷ [] })
-        ∙ (λ i. record (allotted_view rows mid) { temporaries = sym pushed i }),
-        (λ around start. ap (λ xs. xs ++ []) (s.2 around _)), s.3)
+    by (Ok m) s = (
+      s.0,
+      (λ i. record (s.1 i) { temporaries = (s.1 i).temporaries ++ s.0 i ∷ [] })
+          ∙ (λ i. record (allotted_view rows mid) { temporaries = sym pushed i }),
+      (λ around start. ap (λ xs. xs ++ []) (s.2 around _)),
+      s.3,
+    )
     by (Err l) s = absurd s
 
 -- ---- types of functions
@@ -88,11 +90,12 @@ unfolding ◌>>=◌
 numbered rows r t stands one {old} {after} {n} kinds temporaries homes keys at =
     record {
       is =
-          λ stand.
-          (sym (at ∙ inserted-place rows r t stands one old.types.keys stand),
-          (λ i. record { kinds = sym kinds i; temporaries = sym temporaries i; homes = sym homes i; types = sym (are stand) i }),
-          (λ around start. refl),
-          subst (AllStand rows) (sym keys) (inserted-stand rows r t stands one old.types.keys stand));
+          λ stand. (
+            sym (at ∙ inserted-place rows r t stands one old.types.keys stand),
+            (λ i. record { kinds = sym kinds i; temporaries = sym temporaries i; homes = sym homes i; types = sym (are stand) i }),
+            (λ around start. refl),
+            subst (AllStand rows) (sym keys) (inserted-stand rows r t stands one old.types.keys stand),
+          );
     }
   where
     are : AllStand rows old.types.keys → map (type_at rows) after.types.keys ≡ with_type t (map (type_at rows) old.types.keys)

@@ -62,7 +62,10 @@ pub settled : {rows : List Row} {old : Emitter} {new : CodeAllotted} {n r : ℕ}
 settled {rows} {old} {new} {n} {r} h k t y =
     record {
       is =
-          λ stand.
-          (refl, (λ i. record { kinds = sym k i; temporaries = sym t i; homes = sym h i; types = map (type_at rows) (sym y i) }),
-          (λ leads around. grown-none around (code_of old.code leads)), subst (AllStand rows) (sym y) stand);
+          λ stand. (
+            refl,
+            (λ i. record { kinds = sym k i; temporaries = sym t i; homes = sym h i; types = map (type_at rows) (sym y i) }),
+            (λ leads around. grown-none around (code_of old.code leads)),
+            subst (AllStand rows) (sym y) stand,
+          );
     }
