@@ -2,11 +2,14 @@ mod Allotting
 mod BeginSteps
 mod Blocks
 mod Closing
+mod Deciding
 mod Emitted
 mod EntityNumbers
 mod EntityValues
 mod FunctionTypes
 mod Growing
+mod Jumping
+mod Landing
 mod LocalSteps
 mod LoweredFunctions
 mod OpenLoops

@@ -32,7 +32,7 @@ impl Emitter {
         ensures { Waits line (deciding_by is_or source) self.old self.new result }
     {
         let at = self.here();
-        self.emit(line, deciding(is_or, source, 0))?;
+        self.code.emit(line, deciding(is_or, source, 0))?;
         Ok(at)
     }
 
@@ -41,7 +41,7 @@ impl Emitter {
         ensures { Turns line at self.old self.new result }
     {
         let over = self.here();
-        self.emit(line, Mid::Jump { place: 0 })?;
+        self.code.emit(line, Mid::Jump { place: 0 })?;
         self.lead_here(at);
         Ok(over)
     }
