@@ -1,3 +1,4 @@
+mod Accesses
 mod Allotting
 mod BeginSteps
 mod Blocks
@@ -14,6 +15,7 @@ mod LocalSteps
 mod LoweredFunctions
 mod OpenLoops
 mod PlacesFound
+mod PointedTypes
 mod RunSteps
 mod StartingObjects
 mod Steps

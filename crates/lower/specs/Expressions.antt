@@ -284,16 +284,16 @@ pub record Change : Type 0 where
   pub old : ℕ
   pub changed : ℕ
 
+-- a copy of the old value changes
+abbrev pub copied_to : ℕ → ℕ → ℕ → Making Change
+copied_to line old d = do
+  emits line (mid.Move d old)
+  pure (record { old = old; changed = d })
+
 -- what changes is the old value itself, or a copy of it, where the old value is the result
 abbrev pub changing : (is_after : Bool) → Making ℕ → ℕ → ℕ → Making Change
 changing false copy line old = pure (record { old = old; changed = old })
-changing true copy line old = copied
-  where
-    copied : Making Change
-    copied = do
-      d ← copy
-      emits line (mid.Move d old)
-      pure (record { old = old; changed = d })
+changing true copy line old = copy >>= copied_to line old
 
 -- the old value of a place, and what becomes the new one
 abbrev pub changing_integer : (is_after : Bool) → ℕ → CType → ℕ → Located → Making Change

@@ -1,6 +1,6 @@
 ghost use Rattle.std.specs.Prelude.{◌≡◌, ℕ, suc, if◌then◌else◌, List};
 ghost use Rattle.c_types.specs.declared.type_ref.Row.{Row};
-ghost use Rattle.lower.specs.Expressions.{changing_integer, changing_pointer, widened, changed_to, integer_changed, pointer_changed};
+ghost use Rattle.lower.specs.Expressions.{changing_integer, changing_pointer, copied_to, widened, changed_to, integer_changed, pointer_changed};
 ghost use Rattle.lower.specs.Emits.{Emits, itself, rows_of, types_of, located_view, change_view};
 
 use crate::emitter::{Change, Emitter, Located};
@@ -14,7 +14,9 @@ use srmt_base::Ty;
 
 impl Emitter {
     /// A copy of the old value, which changes.
-    fn copy(&mut self, line: u32, old: u16, target: u16) -> Result<Change, LowerRefusal> {
+    fn copy(&mut self, line: u32, old: u16, target: u16) -> Result<Change, LowerRefusal>
+        ensures { (rows : List Row) → Emits change_view rows self.old self.new result (copied_to line old target) }
+    {
         self.emit(
             line,
             Mid::Move {
