@@ -12,11 +12,15 @@ mod Growing
 mod Jumping
 mod Landing
 mod LocalSteps
+mod Looping
 mod LoweredFunctions
 mod OpenLoops
+mod Parts
 mod PlacesFound
 mod PointedTypes
+mod Rounds
 mod RunSteps
 mod StartingObjects
+mod StatementRows
 mod Steps
 mod Targets
