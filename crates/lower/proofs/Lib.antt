@@ -5,6 +5,7 @@ mod Blocks
 mod Closing
 mod Deciding
 mod Emitted
+mod EmittedParts
 mod EntityNumbers
 mod EntityValues
 mod FunctionTypes
@@ -19,8 +20,10 @@ mod Parts
 mod PlacesFound
 mod PointedTypes
 mod Rounds
+mod Rows
 mod RunSteps
 mod StartingObjects
 mod StatementRows
 mod Steps
 mod Targets
+mod ValueLists

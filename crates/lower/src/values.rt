@@ -3,7 +3,7 @@ ghost use Rattle.mid_code.specs.declared.mid.Mid.TheVariants as mid_of;
 ghost use Rattle.mid_code.specs.Registers.{registers_list};
 ghost use Rattle.c_types.specs.Types.{ty_of};
 ghost use Rattle.c_typed.specs.Views.{value_view, place_view, values_from};
-ghost use Rattle.lower.specs.Expressions.{value_of, address_of, location_of, values_in, dropped_in, decides, chosen, updated, repointed, moved_by};
+ghost use Rattle.lower.specs.Expressions.{value_of, address_of, location_of, values_in, dropped_in, decides, chosen, updated, repointed};
 ghost use Rattle.lower.specs.Emits.{Emits, itself, nothing, rows_of, types_of, inside_view, located_view};
 
 use crate::emitter::{Emitter, Located};
@@ -57,13 +57,15 @@ pub(crate) fn value(
             out.compute(*op, at.ty(a.get().ty), *told, left, right)
         }
         ValueNode::Sum(told, is_less, pointer_first, a, b) => {
+            let left = self::value(at, out, a.get(), k)?;
+            let right = self::value(at, out, b.get(), at.free_behind(a.get().ty, k)?)?;
             let by = Moving {
                 at: *told,
                 is_less: *is_less,
                 pointer_type: a.get().ty,
                 index_type: b.get().ty,
             };
-            moved(at, out, line, *pointer_first, by, a.get(), b.get(), k)
+            out.move_operands(at, line, *pointer_first, by, left, right)
         }
         ValueNode::Difference(told, a, b) => {
             let left = self::value(at, out, a.get(), k)?;
@@ -133,29 +135,6 @@ pub(crate) fn value(
             out.exit(*told, operand)
         }
     }
-}
-
-/// A pointer and an integer (C11 6.5.6p8).
-#[cycle(value)]
-fn moved(
-    at: Inside,
-    out: &mut Emitter,
-    line: u32,
-    pointer_first: bool,
-    by: Moving,
-    a: &Value,
-    b: &Value,
-    k: usize,
-) -> Result<u16, LowerRefusal>
-    ensures {
-        Emits itself (rows_of at.entry) out.old out.new result
-            (moved_by (inside_view at.entry) line by.at by.is_less pointer_first (types_of at.entry a.now.ty) (types_of at.entry by.pointer_type) (types_of at.entry by.index_type)
-            (value_view (types_of at.entry) a.now) (value_view (types_of at.entry) b.now) k)
-    }
-{
-    let left = value(at, out, a, k)?;
-    let right = value(at, out, b, at.free_behind(a.ty, k)?)?;
-    out.move_operands(at, line, pointer_first, by, left, right)
 }
 
 /// `&&` and `||` behind the first operand (C11 6.5.13, 6.5.14).
@@ -334,13 +313,15 @@ pub(crate) fn address(
         }
         PlaceNode::Pointed(pointer) => value(at, out, pointer.get(), k),
         PlaceNode::Element(told, pointer_first, a, b) => {
+            let left = value(at, out, a.get(), k)?;
+            let right = value(at, out, b.get(), at.free_behind(a.get().ty, k)?)?;
             let by = Moving {
                 at: *told,
                 is_less: false,
                 pointer_type: a.get().ty,
                 index_type: b.get().ty,
             };
-            moved(at, out, line, *pointer_first, by, a.get(), b.get(), k)
+            out.move_operands(at, line, *pointer_first, by, left, right)
         }
     }
 }
