@@ -22,6 +22,7 @@ mod PointedTypes
 mod Rounds
 mod Rows
 mod RunSteps
+mod SameTypes
 mod StartingObjects
 mod StatementRows
 mod Steps
