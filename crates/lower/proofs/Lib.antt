@@ -5,7 +5,6 @@ mod Blocks
 mod Closing
 mod Deciding
 mod Emitted
-mod EmittedParts
 mod EntityNumbers
 mod EntityValues
 mod FunctionTypes
@@ -16,6 +15,7 @@ mod LocalSteps
 mod Looping
 mod LoweredFunctions
 mod OpenLoops
+mod Operands
 mod Parts
 mod PlacesFound
 mod PointedTypes
