@@ -12,7 +12,7 @@ ghost use Rattle.c_types.specs.Types.{CType, result_of};
 ghost use Rattle.lower.specs.declared.refusal.LowerRefusal.TheVariants.{Memory};
 
 use crate::allotted::Allotted;
-use crate::body::{Body, close};
+use crate::body::Body;
 use crate::code::Code;
 use crate::emitter::Emitter;
 use crate::inside::{Inside, kind_of};
@@ -103,8 +103,7 @@ fn leave(at: Inside, body: &mut Body, line: u32) -> Result<(), LowerRefusal>
             (leaves_at line (result_of (types_of at.entry at.entry.function.now.ty)))
     }
 {
-    close(&mut body.out, &body.objects, line)?;
-    close(&mut body.out, &body.outside, line)?;
+    body.close_all(line)?;
     let result = at.types().result(at.function.ty);
     let source = body.out.null(at, result, 0, line)?;
     body.out.emit(line, Mid::Return { source })
