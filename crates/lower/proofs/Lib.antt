@@ -13,6 +13,7 @@ mod Growing
 mod Jumping
 mod Landing
 mod LocalSteps
+mod LoopSteps
 mod Looping
 mod LoweredFunctions
 mod OpenLoops
@@ -24,6 +25,7 @@ mod Rows
 mod RunSteps
 mod StartingObjects
 mod StatementRows
+mod StatementSteps
 mod Steps
 mod Targets
 mod ValueLists

@@ -1,5 +1,6 @@
-use Rattle.std.proofs.Common.{refl, sym, ◌∙◌, ap, subst, Err, Some, None, map, drop, tt}
+use Rattle.std.proofs.Common.{refl, sym, ◌∙◌, ap, subst, Ok, Err, Some, None, map, drop}
 use Rattle.std.specs.Prelude.{option_map}
+use Rattle.std.specs.Option.{option_copied}
 use Rattle.c_typed.specs.declared.statement.StmtNode.TheVariants as sn
 use Rattle.c_typed.specs.Statements.{no_items}
 use Rattle.c_typed.specs.StatementViews.{stmt_view, all_items as items_of, block_item_view, local_item_view}
@@ -9,6 +10,11 @@ use Rattle.lower.specs.Emits.{nothing, rows_of, types_of, inside_view}
 use Rattle.lower.proofs.Steps.{exits}
 use Rattle.lower.proofs.RunSteps.{run-step, run-stop, run-given, run-memory, run-same, run-answer, emit-step, emit-stop, emitted}
 use Rattle.lower.proofs.StatementRows.{if_rest, block-row, empty-row, value-row, if-row, while-row, do-row, for-row, continue-row, break-row, return-row, first-row, locals-row, statement-row, declaration-row, no_items-row}
+use Rattle.source_meaning.specs.Statements.{locals_of, numbers_of}
+use Rattle.lower.specs.Statements.{lowers, looped}
+use Rattle.lower.proofs.Blocks.{block-begin-refused}
+use Rattle.lower.proofs.StatementSteps.{items-row, items-end, statement-alone, declaration-alone, over-ran, over-refused, first-way-refused, second-way-refused, both-ran, block-closed, inside-refused}
+use Rattle.lower.proofs.LoopSteps.{turn-refused, test-refused, unless-memory, body-refused, step-refused, jump-refused, rounds-done, do-body-refused, do-test-refused, do-jump-refused, do-done}
 use Rattle.lower.proofs.statements.+statement.Goals as goal
 
 -- ---- statements
@@ -95,116 +101,170 @@ for_loop-returns-in-Locals t c =
 -- ---- the parts of a block
 
 pub block_item-returns-in-Statement : goal.block_item-returns-in-Statement
-block_item-returns-in-Statement t c = ?
+block_item-returns-in-Statement t c =
+    run-same (statement-alone (inside_view c.args.at) (types_of c.args.at) c.args.item.now c.in-Statement.stmt c.in-Statement.is) c.statement.ensures
 
 pub block_item-returns-in-Declaration : goal.block_item-returns-in-Declaration
-block_item-returns-in-Declaration t c = ?
+block_item-returns-in-Declaration t c =
+    run-same (declaration-alone (inside_view c.args.at) (types_of c.args.at) c.args.item.now c.in-Declaration.locals c.in-Declaration.is) (emitted c.initialize_all.ensures)
 
 pub all_items-loop-item-init : goal.all_items-loop-item-init
 all_items-loop-item-init t c = λ final r h. h
 
 pub all_items-returns-in_err-block_item : goal.all_items-returns-in_err-block_item
-all_items-returns-in_err-block_item t c = ?
+all_items-returns-in_err-block_item t c =
+    c.loop-item.invariant _ _
+    (run-stop _ (items-row (inside_view c.args.at) (types_of c.args.at) c.args.items.now c.loop-item.item-index c.item-item.result c.loop-item-test.true c.item-item.is)
+    (exits c.from_residual.result _ c.from_residual.ensures.1) c.in_err-block_item.ensures)
 
 pub all_items-loop-item-preserved : goal.all_items-loop-item-preserved
-all_items-loop-item-preserved t c = ?
+all_items-loop-item-preserved t c =
+    λ final r h.
+    c.loop-item.invariant final r
+    (run-step _ (items-row (inside_view c.args.at) (types_of c.args.at) c.args.items.now c.loop-item.item-index c.item-item.result c.loop-item-test.true c.item-item.is)
+    c.in_ok-block_item.ensures h)
 
 pub all_items-returns : goal.all_items-returns
-all_items-returns t c = ?
+all_items-returns t c =
+    c.loop-item.invariant c.loop-item.body (Ok tt)
+    (run-same (items-end (inside_view c.args.at) (types_of c.args.at) c.args.items.now c.loop-item.item-index c.loop-item-test.false) run-given)
 
 pub either_way-returns-in_err-waits : goal.either_way-returns-in_err-waits
-either_way-returns-in_err-waits t c = ?
+either_way-returns-in_err-waits t c =
+run-memory (exits c.from_residual.result _ c.from_residual.ensures.1 ∙ ap Err c.in_err-waits.ensures)
 
 pub either_way-returns-in_err-statement : goal.either_way-returns-in_err-statement
-either_way-returns-in_err-statement t c = ?
+either_way-returns-in_err-statement t c =
+    first-way-refused (rows_of c.args.at) c.args.line c.args.test _ c.args.body.now c.jump_from.new.self c.in_ok-waits.ensures _ _ c.statement.new.body _ _ _ c.in_err-statement.ensures
+    (exits c.from_residual-in_err-statement.result _ c.from_residual-in_err-statement.ensures.1)
 
 pub either_way-returns-in_err-over : goal.either_way-returns-in_err-over
-either_way-returns-in_err-over t c = ?
+either_way-returns-in_err-over t c =
+run-memory (exits c.from_residual-in_err-over.result _ c.from_residual-in_err-over.ensures.1 ∙ ap Err c.in_err-over.ensures)
 
 pub either_way-statement-requires-2 : goal.either_way-statement-requires-2
 either_way-statement-requires-2 t c = ?
 
 pub either_way-returns-in_err-statement-2 : goal.either_way-returns-in_err-statement-2
-either_way-returns-in_err-statement-2 t c = ?
+either_way-returns-in_err-statement-2 t c =
+    second-way-refused (rows_of c.args.at) c.args.line c.args.test _ c.args.body.now c.jump_from.new.self c.in_ok-waits.ensures _ _ c.statement.new.body tt _ c.turn.new.self c.in_ok-statement.ensures c.in_ok-over.ensures
+    c.statement-2.new.body _ _ _ c.in_err-statement-2.ensures (exits c.from_residual-in_err-statement-2.result _ c.from_residual-in_err-statement-2.ensures.1)
 
 pub either_way-returns : goal.either_way-returns
-either_way-returns t c = ?
+either_way-returns t c =
+    both-ran (rows_of c.args.at) c.args.line c.args.test _ c.args.body.now c.jump_from.new.self c.in_ok-waits.ensures _ _ c.statement.new.body tt _ c.turn.new.self c.in_ok-statement.ensures c.in_ok-over.ensures
+    c.statement-2.new.body c.lead_here.new.self tt c.in_ok-statement-2.ensures c.lead_here.ensures.allotted c.lead_here.ensures.led
 
 pub items_in_block-returns-in_err-begin_block : goal.items_in_block-returns-in_err-begin_block
-items_in_block-returns-in_err-begin_block t c = ?
+items_in_block-returns-in_err-begin_block t c =
+    block-begin-refused {view = nothing} (inside_view c.args.at) (locals_of (items_of (map (block_item_view (types_of c.args.at)) c.args.items.now))) c.args.line _ c.args.body.now c.begin_block.new.body _
+    (exits c.from_residual.result _ c.from_residual.ensures.1) c.in_err-begin_block.ensures
 
 pub items_in_block-returns-in_err-all_items : goal.items_in_block-returns-in_err-all_items
-items_in_block-returns-in_err-all_items t c = ?
+items_in_block-returns-in_err-all_items t c =
+    inside-refused (rows_of c.args.at) (inside_view c.args.at) (locals_of (items_of (map (block_item_view (types_of c.args.at)) c.args.items.now))) c.args.line _ c.args.body.now c.begin_block.new.body _ refl tt c.in_ok-begin_block.ensures
+    c.all_items.new.body _ _ _ c.in_err-all_items.ensures (exits c.from_residual-in_err-all_items.result _ c.from_residual-in_err-all_items.ensures.1)
 
 pub items_in_block-returns : goal.items_in_block-returns
-items_in_block-returns t c = ?
+items_in_block-returns t c =
+    block-closed (rows_of c.args.at) (inside_view c.args.at) (locals_of (items_of (map (block_item_view (types_of c.args.at)) c.args.items.now))) c.args.line _ c.args.body.now c.begin_block.new.body c.len-stay.result c.len-stay.ensures tt c.in_ok-begin_block.ensures
+    c.all_items.new.body _ tt _ c.in_ok-all_items.ensures c.close_down_to.ensures
 
 pub only_if-returns-in_err-waits : goal.only_if-returns-in_err-waits
-only_if-returns-in_err-waits t c = ?
+only_if-returns-in_err-waits t c =
+run-memory (exits c.from_residual.result _ c.from_residual.ensures.1 ∙ ap Err c.in_err-waits.ensures)
 
 pub only_if-returns-in_err-statement : goal.only_if-returns-in_err-statement
-only_if-returns-in_err-statement t c = ?
+only_if-returns-in_err-statement t c =
+    over-refused (rows_of c.args.at) c.args.line c.args.test _ c.args.body.now c.jump_from.new.self c.in_ok-waits.ensures _ c.statement.new.body _ _ _ c.in_err-statement.ensures
+    (exits c.from_residual-in_err-statement.result _ c.from_residual-in_err-statement.ensures.1)
 
 pub only_if-returns : goal.only_if-returns
-only_if-returns t c = ?
+only_if-returns t c =
+    over-ran (rows_of c.args.at) c.args.line c.args.test _ c.args.body.now c.jump_from.new.self c.in_ok-waits.ensures _ c.statement.new.body c.lead_here.new.self tt c.in_ok-statement.ensures
+    c.lead_here.ensures.allotted c.lead_here.ensures.led
 
 pub rounds-returns-in_err-objects : goal.rounds-returns-in_err-objects
-rounds-returns-in_err-objects t c = ?
+rounds-returns-in_err-objects t c = run-memory (exits c.from_residual.result Memory c.from_residual.ensures.1)
 
 pub rounds-returns-in_err-emit : goal.rounds-returns-in_err-emit
-rounds-returns-in_err-emit t c = ?
+rounds-returns-in_err-emit t c =
+    turn-refused (rows_of c.args.at) (inside_view c.args.at) c.args.line c.here-top.result c.args.body.now c.enter_loop.new.self _ c.in_ok-objects.ensures _ c.emit.new.self _ _ _ (c.in_err-emit.ensures (rows_of c.args.at)) (exits c.from_residual-in_err-emit.result _ c.from_residual-in_err-emit.ensures.1)
 
 pub rounds-returns-in_err-tested : goal.rounds-returns-in_err-tested
-rounds-returns-in_err-tested t c = ?
+rounds-returns-in_err-tested t c =
+    test-refused (rows_of c.args.at) (inside_view c.args.at) c.args.line c.here-top.result c.args.body.now c.enter_loop.new.self _ c.in_ok-objects.ensures c.emit.new.self tt (c.in_ok-emit.ensures (rows_of c.args.at)) (option_map (value_view (types_of c.args.at)) (option_copied c.args.condition)) (lowers (inside_view c.args.at) (stmt_view (types_of c.args.at) c.args.a.now)) (option_map (value_view (types_of c.args.at)) (option_copied c.args.step)) c.test.new.out _ _ _ c.in_err-tested.ensures (exits c.from_residual-in_err-tested.result _ c.from_residual-in_err-tested.ensures.1)
 
 pub rounds-returns-in_err-leaving : goal.rounds-returns-in_err-leaving
-rounds-returns-in_err-leaving t c = ?
+rounds-returns-in_err-leaving t c =
+    run-memory (exits c.from_residual-in_err-leaving.result _ c.from_residual-in_err-leaving.ensures.1 ∙ ap Err (unless-memory _ _ _ _ _ c.in_err-leaving.ensures))
 
 pub rounds-returns-in_err-statement : goal.rounds-returns-in_err-statement
-rounds-returns-in_err-statement t c = ?
+rounds-returns-in_err-statement t c =
+    body-refused (rows_of c.args.at) (inside_view c.args.at) c.args.line c.here-top.result c.args.body.now c.enter_loop.new.self _ c.in_ok-objects.ensures c.emit.new.self tt (c.in_ok-emit.ensures (rows_of c.args.at)) (option_map (value_view (types_of c.args.at)) (option_copied c.args.condition)) (lowers (inside_view c.args.at) (stmt_view (types_of c.args.at) c.args.a.now)) (option_map (value_view (types_of c.args.at)) (option_copied c.args.step)) c.test.new.out c.leave_unless.new.self _ _ c.in_ok-tested.ensures c.in_ok-leaving.ensures c.statement.new.body _ _ _ c.in_err-statement.ensures (exits c.from_residual-in_err-statement.result _ c.from_residual-in_err-statement.ensures.1)
 
 pub rounds-returns-in_err-compute : goal.rounds-returns-in_err-compute
-rounds-returns-in_err-compute t c = ?
+rounds-returns-in_err-compute t c =
+    step-refused (rows_of c.args.at) (inside_view c.args.at) c.args.line c.here-top.result c.args.body.now c.enter_loop.new.self _ c.in_ok-objects.ensures c.emit.new.self tt (c.in_ok-emit.ensures (rows_of c.args.at)) (option_map (value_view (types_of c.args.at)) (option_copied c.args.condition)) (lowers (inside_view c.args.at) (stmt_view (types_of c.args.at) c.args.a.now)) (option_map (value_view (types_of c.args.at)) (option_copied c.args.step)) c.test.new.out c.leave_unless.new.self _ _ c.in_ok-tested.ensures c.in_ok-leaving.ensures c.statement.new.body tt c.in_ok-statement.ensures c.compute.new.out _ _ _ c.in_err-compute.ensures (exits c.from_residual-in_err-compute.result _ c.from_residual-in_err-compute.ensures.1)
 
 pub rounds-returns-in_err-emit-2 : goal.rounds-returns-in_err-emit-2
-rounds-returns-in_err-emit-2 t c = ?
+rounds-returns-in_err-emit-2 t c =
+    jump-refused (rows_of c.args.at) (inside_view c.args.at) c.args.line c.here-top.result c.args.body.now c.enter_loop.new.self _ c.in_ok-objects.ensures c.emit.new.self tt (c.in_ok-emit.ensures (rows_of c.args.at)) (option_map (value_view (types_of c.args.at)) (option_copied c.args.condition)) (lowers (inside_view c.args.at) (stmt_view (types_of c.args.at) c.args.a.now)) (option_map (value_view (types_of c.args.at)) (option_copied c.args.step)) c.test.new.out c.leave_unless.new.self _ _ c.in_ok-tested.ensures c.in_ok-leaving.ensures c.statement.new.body tt c.in_ok-statement.ensures c.compute.new.out tt c.in_ok-compute.ensures c.emit-2.new.self _ _ _ (c.in_err-emit-2.ensures (rows_of c.args.at)) (exits c.from_residual-in_err-emit-2.result _ c.from_residual-in_err-emit-2.ensures.1)
 
 pub rounds-returns-in_err-leave_loop : goal.rounds-returns-in_err-leave_loop
-rounds-returns-in_err-leave_loop t c = ?
+rounds-returns-in_err-leave_loop t c =
+run-memory (exits c.from_residual-in_err-leave_loop.result Memory c.from_residual-in_err-leave_loop.ensures.1)
 
 pub rounds-returns : goal.rounds-returns
-rounds-returns t c = ?
+rounds-returns t c =
+    rounds-done (rows_of c.args.at) (inside_view c.args.at) c.args.line c.here-top.result c.args.body.now c.enter_loop.new.self _ c.in_ok-objects.ensures c.emit.new.self tt (c.in_ok-emit.ensures (rows_of c.args.at)) (option_map (value_view (types_of c.args.at)) (option_copied c.args.condition)) (lowers (inside_view c.args.at) (stmt_view (types_of c.args.at) c.args.a.now)) (option_map (value_view (types_of c.args.at)) (option_copied c.args.step)) c.test.new.out c.leave_unless.new.self _ _ c.in_ok-tested.ensures c.in_ok-leaving.ensures c.statement.new.body tt c.in_ok-statement.ensures c.compute.new.out tt c.in_ok-compute.ensures c.here-top.ensures c.here-continue_at.result c.here-continue_at.ensures c.emit-2.new.self c.lead_if.new.self tt c.leave_loop.new.self tt
+    (c.in_ok-emit-2.ensures (rows_of c.args.at)) c.lead_if.ensures c.in_ok-leave_loop.ensures
 
 pub rounds_of_do-returns-in_err-objects : goal.rounds_of_do-returns-in_err-objects
-rounds_of_do-returns-in_err-objects t c = ?
+rounds_of_do-returns-in_err-objects t c = run-memory (exits c.from_residual.result Memory c.from_residual.ensures.1)
 
 pub rounds_of_do-returns-in_err-emit : goal.rounds_of_do-returns-in_err-emit
-rounds_of_do-returns-in_err-emit t c = ?
+rounds_of_do-returns-in_err-emit t c =
+    turn-refused (rows_of c.args.at) (inside_view c.args.at) c.args.line c.here-top.result c.args.body.now c.enter_loop.new.self _ c.in_ok-objects.ensures _ c.emit.new.self _ _ _ (c.in_err-emit.ensures (rows_of c.args.at)) (exits c.from_residual-in_err-emit.result _ c.from_residual-in_err-emit.ensures.1)
 
 pub rounds_of_do-returns-in_err-statement : goal.rounds_of_do-returns-in_err-statement
-rounds_of_do-returns-in_err-statement t c = ?
+rounds_of_do-returns-in_err-statement t c =
+    do-body-refused (rows_of c.args.at) (inside_view c.args.at) c.args.line c.here-top.result c.args.body.now c.enter_loop.new.self _ c.in_ok-objects.ensures c.emit.new.self tt (c.in_ok-emit.ensures (rows_of c.args.at)) (lowers (inside_view c.args.at) (stmt_view (types_of c.args.at) c.args.a.now)) (value_view (types_of c.args.at) c.args.condition.now) c.statement.new.body _ _ _ c.in_err-statement.ensures (exits c.from_residual-in_err-statement.result _ c.from_residual-in_err-statement.ensures.1)
 
 pub rounds_of_do-returns-in_err-source : goal.rounds_of_do-returns-in_err-source
-rounds_of_do-returns-in_err-source t c = ?
+rounds_of_do-returns-in_err-source t c =
+    do-test-refused (rows_of c.args.at) (inside_view c.args.at) c.args.line c.here-top.result c.args.body.now c.enter_loop.new.self _ c.in_ok-objects.ensures c.emit.new.self tt (c.in_ok-emit.ensures (rows_of c.args.at)) (lowers (inside_view c.args.at) (stmt_view (types_of c.args.at) c.args.a.now)) (value_view (types_of c.args.at) c.args.condition.now) c.statement.new.body tt c.in_ok-statement.ensures c.value.new.out _ _ _ c.in_err-source.ensures (exits c.from_residual-in_err-source.result _ c.from_residual-in_err-source.ensures.1)
 
 pub rounds_of_do-returns-in_err-emit-2 : goal.rounds_of_do-returns-in_err-emit-2
-rounds_of_do-returns-in_err-emit-2 t c = ?
+rounds_of_do-returns-in_err-emit-2 t c =
+    do-jump-refused (rows_of c.args.at) (inside_view c.args.at) c.args.line c.here-top.result c.args.body.now c.enter_loop.new.self _ c.in_ok-objects.ensures c.emit.new.self tt (c.in_ok-emit.ensures (rows_of c.args.at)) (lowers (inside_view c.args.at) (stmt_view (types_of c.args.at) c.args.a.now)) (value_view (types_of c.args.at) c.args.condition.now) c.statement.new.body tt c.in_ok-statement.ensures c.value.new.out _ c.in_ok-source.ensures c.emit-2.new.self _ _ _ (c.in_err-emit-2.ensures (rows_of c.args.at)) (exits c.from_residual-in_err-emit-2.result _ c.from_residual-in_err-emit-2.ensures.1)
 
 pub rounds_of_do-returns-in_err-leave_loop : goal.rounds_of_do-returns-in_err-leave_loop
-rounds_of_do-returns-in_err-leave_loop t c = ?
+rounds_of_do-returns-in_err-leave_loop t c =
+run-memory (exits c.from_residual-in_err-leave_loop.result Memory c.from_residual-in_err-leave_loop.ensures.1)
 
 pub rounds_of_do-returns : goal.rounds_of_do-returns
-rounds_of_do-returns t c = ?
+rounds_of_do-returns t c =
+    do-done (rows_of c.args.at) (inside_view c.args.at) c.args.line c.here-top.result c.args.body.now c.enter_loop.new.self _ c.in_ok-objects.ensures c.emit.new.self tt (c.in_ok-emit.ensures (rows_of c.args.at)) (lowers (inside_view c.args.at) (stmt_view (types_of c.args.at) c.args.a.now)) (value_view (types_of c.args.at) c.args.condition.now) c.statement.new.body tt c.in_ok-statement.ensures c.value.new.out _ c.in_ok-source.ensures c.here-top.ensures c.here-continue_at.result c.here-continue_at.ensures c.emit-2.new.self tt c.leave_loop.new.self tt
+    (c.in_ok-emit-2.ensures (rows_of c.args.at)) c.in_ok-leave_loop.ensures
 
 pub rounds_with-returns-in_err-begin_locals : goal.rounds_with-returns-in_err-begin_locals
-rounds_with-returns-in_err-begin_locals t c = ?
+rounds_with-returns-in_err-begin_locals t c =
+    block-begin-refused {view = nothing} (inside_view c.args.at) (numbers_of (map (local_item_view (types_of c.args.at)) c.args.locals.now)) c.args.line _ c.args.body.now c.begin_locals.new.body _
+    (exits c.from_residual.result _ c.from_residual.ensures.1) c.in_err-begin_locals.ensures
 
 pub rounds_with-returns-in_err-initialize_all : goal.rounds_with-returns-in_err-initialize_all
-rounds_with-returns-in_err-initialize_all t c = ?
+rounds_with-returns-in_err-initialize_all t c =
+    inside-refused (rows_of c.args.at) (inside_view c.args.at) (numbers_of (map (local_item_view (types_of c.args.at)) c.args.locals.now)) c.args.line _ c.args.body.now c.begin_locals.new.body _ refl tt c.in_ok-begin_locals.ensures c.begin_locals.new.body _ _ _
+    (emit-stop {next_view = nothing} _ refl refl refl c.in_err-initialize_all.ensures) (exits c.from_residual-in_err-initialize_all.result _ c.from_residual-in_err-initialize_all.ensures.1)
 
 pub rounds_with-returns-in_err-rounds : goal.rounds_with-returns-in_err-rounds
-rounds_with-returns-in_err-rounds t c = ?
+rounds_with-returns-in_err-rounds t c =
+    inside-refused (rows_of c.args.at) (inside_view c.args.at) (numbers_of (map (local_item_view (types_of c.args.at)) c.args.locals.now)) c.args.line _ c.args.body.now c.begin_locals.new.body _ refl tt c.in_ok-begin_locals.ensures c.rounds.new.body _ _ _
+    (emit-step {next_view = nothing} _ refl c.in_ok-initialize_all.ensures c.in_err-rounds.ensures) (exits c.from_residual-in_err-rounds.result _ c.from_residual-in_err-rounds.ensures.1)
 
 pub rounds_with-returns : goal.rounds_with-returns
-rounds_with-returns t c = ?
+rounds_with-returns t c =
+    block-closed (rows_of c.args.at) (inside_view c.args.at) (numbers_of (map (local_item_view (types_of c.args.at)) c.args.locals.now)) c.args.line _ c.args.body.now c.begin_locals.new.body c.len-stay.result c.len-stay.ensures tt c.in_ok-begin_locals.ensures c.rounds.new.body _ tt _
+    (emit-step {next_view = nothing} _ refl c.in_ok-initialize_all.ensures c.in_ok-rounds.ensures) c.close_down_to.ensures
 
