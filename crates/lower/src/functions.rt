@@ -63,14 +63,14 @@ fn begin_parameter(at: Inside, body: &mut Body, number: usize) -> Result<(), Low
     }
 {
     let row = at.row(number);
-    if !row.is_placed {
-        return Ok(());
+    if row.is_placed {
+        let pointer = open(body, number, 1, row.line)?;
+        let Ok(source) = u16::try_from(number) else {
+            return Err(LowerRefusal::Memory);
+        };
+        return body.out.emit(row.line, Mid::Store { pointer, source });
     }
-    let pointer = open(body, number, 1, row.line)?;
-    let Ok(source) = u16::try_from(number) else {
-        return Err(LowerRefusal::Memory);
-    };
-    body.out.emit(row.line, Mid::Store { pointer, source })
+    Ok(())
 }
 
 /// The parameters begin, in order.

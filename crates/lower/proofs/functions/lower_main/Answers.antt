@@ -1,4 +1,4 @@
-use Rattle.std.proofs.Common.{refl, sym, ◌∙◌, ap, take, List, ℕ}
+use Rattle.std.proofs.Common.{◌≡◌, arith, length, refl, sym, ◌∙◌, ap, take, List, ℕ}
 use Rattle.source_meaning.specs.Statements.{locals_of}
 use Rattle.lower.specs.Statements.{begun_at, all_begin, lowers_items}
 use Rattle.lower.specs.Emits.{nothing, rows_of, types_of, inside_view}
@@ -29,9 +29,10 @@ returns-in_err-all_items c =
 pub returns : goal.returns
 returns c =
     let i = inside_view c.args.at in
+    let stay : c.args.body.now.objects.len ≡ length c.args.body.now.objects.items = omega (arith, c.args.body.now.objects.ok.0) in
     let items = items_of (types_of c.args.at) c.args.at.function.now c.as_slice-items.result.now in
     run-step {view = nothing} {x = tt} _ (main-row (types_of c.args.at) c.args.at.function.now i c.as_slice-items.result.now c.as_slice-items.ensures)
     (live (λ start. begun_at i.rows start (locals_of items)) (all_begin i (locals_of items)) (lowers_items i items) c.args.body.now c.begin_block.new.body
     c.all_items.new.body (record c.all_items.new.body { objects = c.truncate.new.self }) tt c.in_ok-begin_block.ensures c.in_ok-all_items.ensures refl
-    (c.truncate.ensures.items ∙ ap (λ n. take n c.all_items.new.body.objects.items) c.len-stay.ensures) refl)
+    (c.truncate.ensures.items ∙ ap (λ n. take n c.all_items.new.body.objects.items) (c.len-stay.ensures ∙ stay)) refl)
     (emitted (c.leave_main.ensures (rows_of c.args.at)))
