@@ -2,7 +2,7 @@ use Rattle.std.proofs.Common.{Err, refl, ◌∙◌, ap, rules, ◌≡◌, ℕ, L
 use Rattle.c_typed.specs.Views.{value_view, place_view, values_from}
 use Rattle.lower.specs.Expressions.{value_of, address_of, location_of, values_in, dropped_in, decides, chosen, updated, repointed, moved_by}
 use Rattle.lower.specs.Emits.{rows_of, types_of, inside_view, Emits, itself, nothing, located_view}
-use Rattle.lower.proofs.Steps.{exits, memory}
+use Rattle.lower.proofs.Steps.{exits, memory, step, stop, same-making}
 use Rattle.lower.proofs.Deciding.{operand-refused, test-refused, decided, first-operand-refused, first-join-refused, second-operand-refused, second-join-refused, chose}
 use Rattle.mid_code.specs.Registers.{registers_list}
 use Rattle.c_types.specs.Types.{ty_of}
@@ -97,13 +97,15 @@ pub arguments-returns : goal.arguments-returns
 arguments-returns t c = ?
 
 pub change_pointer-returns-in_err-change : goal.change_pointer-returns-in_err-change
-change_pointer-returns-in_err-change t c = ?
+change_pointer-returns-in_err-change t c = stop _ refl (exits c.from_residual.result _ c.from_residual.ensures.1) c.in_err-change.ensures
 
 pub change_pointer-returns-in_err-index : goal.change_pointer-returns-in_err-index
-change_pointer-returns-in_err-index t c = ?
+change_pointer-returns-in_err-index t c =
+    step _ refl c.in_ok-change.ensures
+    (stop _ refl (exits c.from_residual-in_err-index.result _ c.from_residual-in_err-index.ensures.1) c.in_err-index.ensures)
 
 pub change_pointer-returns : goal.change_pointer-returns
-change_pointer-returns t c = ?
+change_pointer-returns t c = step _ refl c.in_ok-change.ensures (step _ refl c.in_ok-index.ensures c.end_move.ensures)
 
 pub choose-value-requires-2 : goal.choose-value-requires-2
 choose-value-requires-2 t c = ?
