@@ -1,6 +1,8 @@
 -- Values of a list are lowered one after another: what a loop has emitted comes before what the rest emits.
-use Rattle.std.proofs.Common.{◌≡◌, ℕ, ◌+◌, ◌<◌, ◌≤◌, List, [], ◌∷◌, ◌++◌, map, drop, length, Result, Ok, Err, refl, sym, ◌∙◌, ap, subst}
-use Rattle.std.specs.Prelude.{⊤}
+use Rattle.std.proofs.Common.{◌≡◌, ℕ, ◌+◌, ◌<◌, ◌≤◌, arith, Bool, false, List, [], ◌∷◌, ◌++◌, map, drop, length, Result, Ok, Err, refl, sym, ◌∙◌, ap, subst}
+use Rattle.std.specs.Prelude.{⊤, IsTrue, ◌↔◌}
+use Rattle.std.proofs.lemmas.Bool.{false≢true}
+use Rattle.mid_code.proofs.RegistersLemmas.{length-registers_list}
 use Rattle.std.proofs.Math.ListN.{get_or}
 use Rattle.std.proofs.lemmas.List.{append_assoc, drop_more, drop_all}
 use Rattle.c_types.specs.declared.type_ref.TypeRef.{TypeRef}
@@ -167,3 +169,11 @@ module _ (i : Inside) (types : TypeRef → CType) (rows : List Row) where
   drops-end es initial now items k index all past before-it =
       subst (λ w. Emits nothing rows initial now (Ok tt) (Dropped w k)) all
       (before-it now (Ok tt) (same-making (ap (λ w. Dropped w k) (drop_all index items past) ∙ none-dropped k) (given)))
+
+-- ---- room for one argument more
+
+pub has-room : (r : Registers) (b : Bool) → (IsTrue b ↔ (length (registers_list r) ≡ 16)) → b ≡ false → length (registers_list r) < 16
+has-room r b full is = below (length (registers_list r)) r.count (length-registers_list r) r.within (λ e. false≢true (sym is ∙ full.1 e))
+  where
+    below : (n count : ℕ) → n ≡ count → count ≤ 16 → (n ≡ 16 → ⊥) → n < 16
+    below n count e within not = omega arith
