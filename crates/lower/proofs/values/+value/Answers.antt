@@ -558,4 +558,4 @@ address-returns-in_ok-right-in-Element t c =
     c.get-in-Element-2.ensures c.in_ok-right-in-Element.ensures) c.move_operands.ensures)
 
 pub arguments-push-requires : goal.arguments-push-requires
-arguments-push-requires t c = has-room _ _ c.is_full.ensures c.if-is_full.false
+arguments-push-requires t c = has-room c.loop-e.found _ c.is_full.ensures c.if-is_full.false
