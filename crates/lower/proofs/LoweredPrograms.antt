@@ -7,14 +7,16 @@ use Rattle.c_types.specs.declared.type_ref.TypeRef.{TypeRef}
 use Rattle.c_types.specs.declared.type_ref.Row.{Row}
 use Rattle.c_types.specs.Types.{CType}
 use Rattle.c_types.specs.Table.{type_at}
+use Rattle.c_typed.specs.declared.program.TypedProgram.{TypedProgram}
 use Rattle.c_typed.specs.Statements.{Program}
+use Rattle.c_typed.specs.StatementViews.{program_view}
 use Rattle.source_meaning.specs.Start.{objects_at_start}
 use Rattle.lower.specs.declared.refusal.LowerRefusal.{LowerRefusal}
 use Rattle.lower.specs.declared.refusal.LowerRefusal.TheVariants.{Memory}
 use Rattle.lower.specs.Expressions.{number_of}
 use Rattle.lower.specs.Programs.{Lowered, LoweredProgram, Each, IsFunction, IsProgram, lowered_functions, lowered, with_first, with_others, types_of_program, type_of_function, shortened}
 use Rattle.lower.specs.Functions.{AreTypes, AddsFunctions, GivesFunctions, GivesProgram}
-use Rattle.lower.proofs.LoweredFunctions.{each-append}
+use Rattle.lower.proofs.LoweredFunctions.{each-append, functions_counted}
 
 memory-program : (whole : Result LoweredProgram LowerRefusal) (told : LowerRefusal) → told ≡ Memory → GivesProgram whole (Err told)
 memory-program (Ok found) told is = is
@@ -97,9 +99,22 @@ module _ {K : Type 0} (keys : K → List TypeRef) (rows : List Row) (p : Program
       (subst (Each IsFunction found.0) (sym h.0.is) h.0.each) (others found.1 h.1) s
   given-both mid new between known (Err refusal) x h others s = absurd h
 
-  pub program-given : (mid new : List MidFunction) (between known : K) (x : MidProgram)
-      → GivesFunctions keys rows [] mid (lowered_functions p Protected p.main_file.functions (types_of_program p)) (Ok between)
+  pub program-given : (old mid new : List MidFunction) (between known : K) (x : MidProgram) → old ≡ []
+      → GivesFunctions keys rows old mid (lowered_functions p Protected p.main_file.functions (types_of_program p)) (Ok between)
       → Others mid new between (Ok known) → StandsBeside p (map (type_at rows) (keys known)) new x → GivesProgram (lowered p) (Ok x)
   unfolding lowered
-  program-given mid new between known x h others s =
-      given-both mid new between known (lowered_functions p Protected p.main_file.functions (types_of_program p)) x h others s
+  program-given old mid new between known x none h others s =
+      given-both mid new between known (lowered_functions p Protected p.main_file.functions (types_of_program p)) x
+      (subst
+      (λ (l : List MidFunction). GivesFunctions keys rows l mid (lowered_functions p Protected p.main_file.functions (types_of_program p)) (Ok between))
+      none h) others s
+
+-- ---- the program of the code
+
+pub main-counted : (p : TypedProgram) → length p.main_file.functions ≡ length (program_view p).main_file.functions
+unfolding program_view
+main-counted p = functions_counted (type_at p.types) p.main_file (program_view p).main_file refl
+
+pub main-entity : (p : TypedProgram) → p.main ≡ (program_view p).main
+unfolding program_view
+main-entity p = refl

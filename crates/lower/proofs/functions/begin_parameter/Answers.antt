@@ -25,4 +25,4 @@ returns-then-row c =
     (λ start. parameter-begun i.rows c.args.number start row true c.row-row.ensures c.if-row.true)
     (c.in_ok-pointer.ensures (rows_of c.args.at))
     (subst (λ n. Begins nothing (rows_of c.args.at) (λ start. []) c.open.new.body (record c.open.new.body { out = c.emit.new.self }) c.emit.result
-    (emits_mid c.row-row.result.line (mid.Store c.in_ok-pointer.pointer n))) c.in-Ok.ensures (emitted-begins (c.emit.ensures (rows_of c.args.at))))
+    (emits_mid c.row-row.result.line (mid.Store c.in_ok-pointer.pointer n))) c.in-Ok.ensures.1 (emitted-begins (c.emit.ensures (rows_of c.args.at))))

@@ -16,7 +16,7 @@ pub returns-in_default : goal.returns-in_default
 returns-in_default c = λ known are.
     long-function c.args.at c.args.types.keys known c.in_ok-body.body c.lower_all.new.body
     (subst (λ n. Starts n c.args.types.keys c.in_ok-body.body) c.len.ensures c.in_ok-body.ensures.begun) are
-    _ c.in_ok-ty.ensures (let h = c.in_default.is in let g = c.in_default.not-Some in ?)
+    _ c.in_ok-ty.ensures (subst (TakesLines (code_of c.lower_all.new.body.out.code [])) c.in_default.is c.in_ok-lines.ensures)
 
 pub returns : goal.returns
 returns c = λ known are.
