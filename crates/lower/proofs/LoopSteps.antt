@@ -118,9 +118,9 @@ module _ (rows : List Row) (i : Inside) (line top : ℕ) (b0 b1 : Body) (objects
                 one-step {y = z} (told line (mid.Jump top)) {view = nothing} jump (λ jump1.
                 gives-same refl (sym (leave.allotted ∙ lands-allotted at out7 out8 led))
                 (together (loop_code i line t c d s)
-                (rounds-ran i line top C b0 b1 b5 new objects d start enter here t at c s out2 out3 out4 out6 out7 out8 turn1 grew unless ran1 grew1 jump1 led leave))))))))
+                (rounds-ran i line top C b0 b1 b5 new objects d start enter here t at c s out2 out3 out4 out6 out7 out8 turn1 grew unless ran1 grew1 jump1 led leave)))))))))
 
-    -- ---- `do`
+    -- ---- `do`)
 
     module _ (body : Making (Unit {0})) (test : Value) where
       abbrev inside-do : Body

@@ -2,6 +2,8 @@ use Rattle.std.proofs.Common.{refl, sym, ◌∙◌, ap, subst, Ok, Err, Some, No
 use Rattle.std.specs.Prelude.{option_map}
 use Rattle.std.specs.Option.{option_copied}
 use Rattle.c_typed.specs.declared.statement.StmtNode.TheVariants as sn
+use Rattle.c_typed.specs.declared.statement.ForStart.TheVariants as fs
+use Rattle.c_typed.specs.declared.statement.BlockItem.TheVariants as bi
 use Rattle.c_typed.specs.Statements.{no_items}
 use Rattle.c_typed.specs.StatementViews.{stmt_view, all_items as items_of, block_item_view, local_item_view}
 use Rattle.c_typed.specs.Views.{value_view}
@@ -11,7 +13,7 @@ use Rattle.lower.proofs.Steps.{exits}
 use Rattle.lower.proofs.RunSteps.{run-step, run-stop, run-given, run-memory, run-same, run-answer, emit-step, emit-stop, emitted}
 use Rattle.lower.proofs.StatementRows.{if_rest, block-row, empty-row, value-row, if-row, while-row, do-row, for-row, continue-row, break-row, return-row, first-row, locals-row, statement-row, declaration-row, no_items-row}
 use Rattle.source_meaning.specs.Statements.{locals_of, numbers_of}
-use Rattle.lower.specs.Statements.{lowers, looped}
+use Rattle.lower.specs.Statements.{lowers, lowers_items, in_block, looped}
 use Rattle.lower.proofs.Blocks.{block-begin-refused}
 use Rattle.lower.proofs.StatementSteps.{items-row, items-end, statement-alone, declaration-alone, over-ran, over-refused, first-way-refused, second-way-refused, both-ran, block-closed, inside-refused}
 use Rattle.lower.proofs.LoopSteps.{turn-refused, test-refused, unless-memory, body-refused, step-refused, jump-refused, rounds-done, do-body-refused, do-test-refused, do-jump-refused, do-done}
@@ -44,29 +46,36 @@ statement-returns-in_ok-value-in-Value t c =
 
 pub statement-returns-in-Block : goal.statement-returns-in-Block
 statement-returns-in-Block t c =
-    run-same (block-row (inside_view c.args.at) (types_of c.args.at) c.args.stmt.now c.in-Block.block c.in-Block.is) c.items_in_block.ensures
+    run-same
+    (block-row (inside_view c.args.at) (types_of c.args.at) c.args.stmt.now c.get-block.result.now (c.in-Block.is ∙ ap sn.Block (sym c.get-block.ensures))
+    ∙ ap (λ xs. in_block (inside_view c.args.at) (locals_of (items_of (map (block_item_view (types_of c.args.at)) xs))) c.get-block.result.now.line
+    (lowers_items (inside_view c.args.at) (items_of (map (block_item_view (types_of c.args.at)) xs)))) (sym c.as_slice.ensures))
+    c.items_in_block.ensures
 
 pub statement-returns-in-None : goal.statement-returns-in-None
 statement-returns-in-None t c =
-    emit-step _ (if-row (inside_view c.args.at) (types_of c.args.at) c.args.stmt.now c.in-If.e c.in-If.a None
-    (c.in-If.is ∙ ap (λ o. sn.If c.in-If.e c.in-If.a o) c.in-None.is)) c.in_ok-test-in-If.ensures c.only_if.ensures
+    emit-step _ (if-row (inside_view c.args.at) (types_of c.args.at) c.args.stmt.now c.in-If.e c.get.result.now None
+    (c.in-If.is ∙ (λ j. sn.If c.in-If.e (sym c.get.ensures j) (c.in-None.is j)))) c.in_ok-test-in-If.ensures c.only_if.ensures
 
 pub statement-returns-in-Some : goal.statement-returns-in-Some
 statement-returns-in-Some t c =
-    emit-step _ (if-row (inside_view c.args.at) (types_of c.args.at) c.args.stmt.now c.in-If.e c.in-If.a (Some c.in-Some.b)
-    (c.in-If.is ∙ ap (λ o. sn.If c.in-If.e c.in-If.a o) c.in-Some.is)) c.in_ok-test-in-If.ensures c.either_way.ensures
+    emit-step _ (if-row (inside_view c.args.at) (types_of c.args.at) c.args.stmt.now c.in-If.e c.get-in-Some.result.now (Some c.get-2.result.now)
+    (c.in-If.is ∙ (λ j. sn.If c.in-If.e (sym c.get-in-Some.ensures j) ((c.in-Some.is ∙ ap Some (sym c.get-2.ensures)) j)))) c.in_ok-test-in-If.ensures c.either_way.ensures
 
 pub statement-returns-in-While : goal.statement-returns-in-While
 statement-returns-in-While t c =
-    run-same (while-row (inside_view c.args.at) (types_of c.args.at) c.args.stmt.now c.in-While.e c.in-While.a c.in-While.is) c.rounds.ensures
+    run-same (while-row (inside_view c.args.at) (types_of c.args.at) c.args.stmt.now c.in-While.e c.get-in-While.result.now
+    (c.in-While.is ∙ ap (sn.While c.in-While.e) (sym c.get-in-While.ensures))) c.rounds.ensures
 
 pub statement-returns-in-Do : goal.statement-returns-in-Do
 statement-returns-in-Do t c =
-    run-same (do-row (inside_view c.args.at) (types_of c.args.at) c.args.stmt.now c.in-Do.a c.in-Do.e c.in-Do.is) c.rounds_of_do.ensures
+    run-same (do-row (inside_view c.args.at) (types_of c.args.at) c.args.stmt.now c.get-in-Do.result.now c.in-Do.e
+    (c.in-Do.is ∙ ap (λ a. sn.Do a c.in-Do.e) (sym c.get-in-Do.ensures))) c.rounds_of_do.ensures
 
 pub statement-returns-in-For : goal.statement-returns-in-For
 statement-returns-in-For t c =
-    run-same (for-row (inside_view c.args.at) (types_of c.args.at) c.args.stmt.now c.in-For.head c.in-For.a c.in-For.is) c.for_loop.ensures
+    run-same (for-row (inside_view c.args.at) (types_of c.args.at) c.args.stmt.now c.in-For.head c.get-in-For.result.now
+    (c.in-For.is ∙ ap (sn.For c.in-For.head) (sym c.get-in-For.ensures))) c.for_loop.ensures
 
 pub statement-returns-in-Continue : goal.statement-returns-in-Continue
 statement-returns-in-Continue t c =
@@ -85,18 +94,23 @@ statement-returns-in_ok-source-in-Return t c =
 
 pub for_loop-returns-in_err-compute-in-Value : goal.for_loop-returns-in_err-compute-in-Value
 for_loop-returns-in_err-compute-in-Value t c =
-    emit-stop _ (first-row (inside_view c.args.at) (types_of c.args.at) c.args.line c.args.head.now (stmt_view (types_of c.args.at) c.args.a.now) c.in-Value.first c.in-Value.is)
+    emit-stop _ (first-row (inside_view c.args.at) (types_of c.args.at) c.args.line c.args.head.now (stmt_view (types_of c.args.at) c.args.a.now) (option_copied c.given.result)
+    (c.in-Value.is ∙ ap fs.Value (sym c.given.ensures)))
     (exits c.from_residual.result _ c.from_residual.ensures.1) refl c.in_err-compute-in-Value.ensures
 
 pub for_loop-returns-in_ok-compute-in-Value : goal.for_loop-returns-in_ok-compute-in-Value
 for_loop-returns-in_ok-compute-in-Value t c =
-    emit-step _ (first-row (inside_view c.args.at) (types_of c.args.at) c.args.line c.args.head.now (stmt_view (types_of c.args.at) c.args.a.now) c.in-Value.first c.in-Value.is)
-    c.in_ok-compute-in-Value.ensures c.rounds.ensures
+    emit-step _ (first-row (inside_view c.args.at) (types_of c.args.at) c.args.line c.args.head.now (stmt_view (types_of c.args.at) c.args.a.now) (option_copied c.given.result)
+    (c.in-Value.is ∙ ap fs.Value (sym c.given.ensures)))
+    c.in_ok-compute-in-Value.ensures
+    (run-same (λ j. looped (inside_view c.args.at) c.args.line (option_map (value_view (types_of c.args.at)) (sym c.given-2.ensures j)) (lowers (inside_view c.args.at) (stmt_view (types_of c.args.at) c.args.a.now))
+    (option_map (value_view (types_of c.args.at)) (sym c.given-3.ensures j)))
+    c.rounds.ensures)
 
 pub for_loop-returns-in-Locals : goal.for_loop-returns-in-Locals
 for_loop-returns-in-Locals t c =
-    run-same (locals-row (inside_view c.args.at) (types_of c.args.at) c.args.line c.args.head.now (stmt_view (types_of c.args.at) c.args.a.now) c.in-Locals.locals c.in-Locals.is)
-    c.rounds_with.ensures
+    run-same (locals-row (inside_view c.args.at) (types_of c.args.at) c.args.line c.args.head.now (stmt_view (types_of c.args.at) c.args.a.now) c.as_slice.result.now
+    (c.in-Locals.is ∙ ap fs.Locals (sym c.as_slice.ensures))) c.rounds_with.ensures
 
 -- ---- the parts of a block
 
@@ -106,7 +120,8 @@ block_item-returns-in-Statement t c =
 
 pub block_item-returns-in-Declaration : goal.block_item-returns-in-Declaration
 block_item-returns-in-Declaration t c =
-    run-same (declaration-alone (inside_view c.args.at) (types_of c.args.at) c.args.item.now c.in-Declaration.locals c.in-Declaration.is) (emitted c.initialize_all.ensures)
+    run-same (declaration-alone (inside_view c.args.at) (types_of c.args.at) c.args.item.now c.as_slice.result.now (c.in-Declaration.is ∙ ap bi.Declaration (sym c.as_slice.ensures)))
+    (emitted {old = c.args.body.now} c.initialize_all.ensures)
 
 pub all_items-loop-item-init : goal.all_items-loop-item-init
 all_items-loop-item-init t c = λ final r h. h
@@ -131,7 +146,7 @@ all_items-returns t c =
 
 pub either_way-returns-in_err-waits : goal.either_way-returns-in_err-waits
 either_way-returns-in_err-waits t c =
-run-memory (exits c.from_residual.result _ c.from_residual.ensures.1 ∙ ap Err c.in_err-waits.ensures)
+    run-memory (exits c.from_residual.result _ c.from_residual.ensures.1 ∙ ap Err c.in_err-waits.ensures)
 
 pub either_way-returns-in_err-statement : goal.either_way-returns-in_err-statement
 either_way-returns-in_err-statement t c =
@@ -140,10 +155,11 @@ either_way-returns-in_err-statement t c =
 
 pub either_way-returns-in_err-over : goal.either_way-returns-in_err-over
 either_way-returns-in_err-over t c =
-run-memory (exits c.from_residual-in_err-over.result _ c.from_residual-in_err-over.ensures.1 ∙ ap Err c.in_err-over.ensures)
+    run-memory (exits c.from_residual-in_err-over.result _ c.from_residual-in_err-over.ensures.1 ∙ ap Err c.in_err-over.ensures)
 
 pub either_way-statement-requires-2 : goal.either_way-statement-requires-2
-either_way-statement-requires-2 t c = ?
+either_way-statement-requires-2 t c =
+    c.decreases
 
 pub either_way-returns-in_err-statement-2 : goal.either_way-returns-in_err-statement-2
 either_way-returns-in_err-statement-2 t c =
@@ -167,12 +183,12 @@ items_in_block-returns-in_err-all_items t c =
 
 pub items_in_block-returns : goal.items_in_block-returns
 items_in_block-returns t c =
-    block-closed (rows_of c.args.at) (inside_view c.args.at) (locals_of (items_of (map (block_item_view (types_of c.args.at)) c.args.items.now))) c.args.line _ c.args.body.now c.begin_block.new.body c.len-stay.result c.len-stay.ensures tt c.in_ok-begin_block.ensures
+    block-closed (rows_of c.args.at) (inside_view c.args.at) (locals_of (items_of (map (block_item_view (types_of c.args.at)) c.args.items.now))) c.args.line _ c.args.body.now c.begin_block.new.body c.len-stay.result (c.len-stay.ensures ∙ c.args.body.now.objects.ok.0) tt c.in_ok-begin_block.ensures
     c.all_items.new.body _ tt _ c.in_ok-all_items.ensures c.close_down_to.ensures
 
 pub only_if-returns-in_err-waits : goal.only_if-returns-in_err-waits
 only_if-returns-in_err-waits t c =
-run-memory (exits c.from_residual.result _ c.from_residual.ensures.1 ∙ ap Err c.in_err-waits.ensures)
+    run-memory (exits c.from_residual.result _ c.from_residual.ensures.1 ∙ ap Err c.in_err-waits.ensures)
 
 pub only_if-returns-in_err-statement : goal.only_if-returns-in_err-statement
 only_if-returns-in_err-statement t c =
@@ -197,7 +213,7 @@ rounds-returns-in_err-tested t c =
 
 pub rounds-returns-in_err-leaving : goal.rounds-returns-in_err-leaving
 rounds-returns-in_err-leaving t c =
-    run-memory (exits c.from_residual-in_err-leaving.result _ c.from_residual-in_err-leaving.ensures.1 ∙ ap Err (unless-memory _ _ _ _ _ c.in_err-leaving.ensures))
+    run-memory (exits c.from_residual-in_err-leaving.result _ c.from_residual-in_err-leaving.ensures.1 ∙ ap Err (unless-memory c.args.line c.in_ok-tested.tested c.test.new.out c.leave_unless.new.self _ c.in_err-leaving.ensures))
 
 pub rounds-returns-in_err-statement : goal.rounds-returns-in_err-statement
 rounds-returns-in_err-statement t c =
@@ -213,7 +229,7 @@ rounds-returns-in_err-emit-2 t c =
 
 pub rounds-returns-in_err-leave_loop : goal.rounds-returns-in_err-leave_loop
 rounds-returns-in_err-leave_loop t c =
-run-memory (exits c.from_residual-in_err-leave_loop.result Memory c.from_residual-in_err-leave_loop.ensures.1)
+    run-memory (exits c.from_residual-in_err-leave_loop.result Memory c.from_residual-in_err-leave_loop.ensures.1)
 
 pub rounds-returns : goal.rounds-returns
 rounds-returns t c =
@@ -241,7 +257,7 @@ rounds_of_do-returns-in_err-emit-2 t c =
 
 pub rounds_of_do-returns-in_err-leave_loop : goal.rounds_of_do-returns-in_err-leave_loop
 rounds_of_do-returns-in_err-leave_loop t c =
-run-memory (exits c.from_residual-in_err-leave_loop.result Memory c.from_residual-in_err-leave_loop.ensures.1)
+    run-memory (exits c.from_residual-in_err-leave_loop.result Memory c.from_residual-in_err-leave_loop.ensures.1)
 
 pub rounds_of_do-returns : goal.rounds_of_do-returns
 rounds_of_do-returns t c =
@@ -261,10 +277,16 @@ rounds_with-returns-in_err-initialize_all t c =
 pub rounds_with-returns-in_err-rounds : goal.rounds_with-returns-in_err-rounds
 rounds_with-returns-in_err-rounds t c =
     inside-refused (rows_of c.args.at) (inside_view c.args.at) (numbers_of (map (local_item_view (types_of c.args.at)) c.args.locals.now)) c.args.line _ c.args.body.now c.begin_locals.new.body _ refl tt c.in_ok-begin_locals.ensures c.rounds.new.body _ _ _
-    (emit-step {next_view = nothing} _ refl c.in_ok-initialize_all.ensures c.in_err-rounds.ensures) (exits c.from_residual-in_err-rounds.result _ c.from_residual-in_err-rounds.ensures.1)
+    (emit-step {next_view = nothing} _ refl c.in_ok-initialize_all.ensures
+    (run-same (λ j. looped (inside_view c.args.at) c.args.line (option_map (value_view (types_of c.args.at)) (sym c.given.ensures j)) (lowers (inside_view c.args.at) (stmt_view (types_of c.args.at) c.args.a.now))
+    (option_map (value_view (types_of c.args.at)) (sym c.given-2.ensures j)))
+    c.in_err-rounds.ensures)) (exits c.from_residual-in_err-rounds.result _ c.from_residual-in_err-rounds.ensures.1)
 
 pub rounds_with-returns : goal.rounds_with-returns
 rounds_with-returns t c =
-    block-closed (rows_of c.args.at) (inside_view c.args.at) (numbers_of (map (local_item_view (types_of c.args.at)) c.args.locals.now)) c.args.line _ c.args.body.now c.begin_locals.new.body c.len-stay.result c.len-stay.ensures tt c.in_ok-begin_locals.ensures c.rounds.new.body _ tt _
-    (emit-step {next_view = nothing} _ refl c.in_ok-initialize_all.ensures c.in_ok-rounds.ensures) c.close_down_to.ensures
+    block-closed (rows_of c.args.at) (inside_view c.args.at) (numbers_of (map (local_item_view (types_of c.args.at)) c.args.locals.now)) c.args.line _ c.args.body.now c.begin_locals.new.body c.len-stay.result (c.len-stay.ensures ∙ c.args.body.now.objects.ok.0) tt c.in_ok-begin_locals.ensures c.rounds.new.body _ tt _
+    (emit-step {next_view = nothing} _ refl c.in_ok-initialize_all.ensures
+    (run-same (λ j. looped (inside_view c.args.at) c.args.line (option_map (value_view (types_of c.args.at)) (sym c.given.ensures j)) (lowers (inside_view c.args.at) (stmt_view (types_of c.args.at) c.args.a.now))
+    (option_map (value_view (types_of c.args.at)) (sym c.given-2.ensures j)))
+    c.in_ok-rounds.ensures)) c.close_down_to.ensures
 
