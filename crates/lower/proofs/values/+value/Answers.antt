@@ -1,11 +1,13 @@
-use Rattle.std.proofs.Common.{Err, refl, ◌∙◌, ap, rules, ◌≡◌, ℕ, List, map, ◌+◌, ◌-◌, ◌*◌, ◌<◌, ◌≤◌, length, ◌/◌, ◌%◌, Bool, true, false, nat_eq, nat_lt, [], ◌∷◌, ◌++◌, slice_index_or, slice_set, bit_and, bit_or, Fits, w8, w32, w64, Bor, MutBor}
+use Rattle.std.proofs.Common.{Err, refl, ◌∙◌, ap, rules, ◌≡◌, ℕ, List, map, ◌+◌, ◌-◌, ◌*◌, ◌<◌, ◌≤◌, length, ◌/◌, ◌%◌, suc, if◌then◌else◌, Bool, true, false, nat_eq, nat_lt, [], ◌∷◌, ◌++◌, slice_index_or, slice_set, bit_and, bit_or, Fits, w8, w32, w64, Bor, MutBor}
 use Rattle.c_typed.specs.Views.{value_view, place_view, values_from}
 use Rattle.lower.specs.Expressions.{value_of, address_of, location_of, values_in, dropped_in, decides, chosen, updated, repointed, moved_by}
-use Rattle.lower.specs.Emits.{rows_of, types_of, inside_view, Emits, itself, nothing, located_view}
+use Rattle.lower.specs.Emits.{rows_of, types_of, inside_view, Emits, itself, nothing, located_view, change_view}
 use Rattle.lower.proofs.Steps.{exits, memory, step, stop, same-making}
 use Rattle.lower.proofs.Deciding.{operand-refused, test-refused, decided, first-operand-refused, first-join-refused, second-operand-refused, second-join-refused, chose}
 use Rattle.mid_code.specs.Registers.{registers_list}
 use Rattle.c_types.specs.Types.{ty_of}
+use Rattle.lower.proofs.Changing.{free-after, free-before, widened-at, value-at, changed-at}
+use Rattle.lower.proofs.values.+value.Goals.{update-then-by+in_ok-behind+in_ok-free, update-else-by+in_ok-free-2}
 use Rattle.lower.proofs.values.+value.Goals as goal
 use Rattle.mid_code.specs.declared.mid.Mid.TheVariants as mid_of
 
@@ -131,41 +133,57 @@ location-returns-in-Register t c = ?
 pub location-returns-in_ok-pointer-in-Memory : goal.location-returns-in_ok-pointer-in-Memory
 location-returns-in_ok-pointer-in-Memory t c = ?
 
-pub moved-returns-in_err-left : goal.moved-returns-in_err-left
-moved-returns-in_err-left t c = ?
-
-pub moved-returns-in_err-free_behind : goal.moved-returns-in_err-free_behind
-moved-returns-in_err-free_behind t c = ?
-
-pub moved-value-requires-2 : goal.moved-value-requires-2
-moved-value-requires-2 t c = ?
-
-pub moved-returns-in_err-right : goal.moved-returns-in_err-right
-moved-returns-in_err-right t c = ?
-
-pub moved-returns : goal.moved-returns
-moved-returns t c = ?
-
 pub update-returns-in_err-begun : goal.update-returns-in_err-begun
-update-returns-in_err-begun t c = ?
+update-returns-in_err-begun t c = stop _ refl (exits c.from_residual.result _ c.from_residual.ensures.1) c.in_err-begun.ensures
 
 pub update-returns-in_err-change : goal.update-returns-in_err-change
-update-returns-in_err-change t c = ?
+update-returns-in_err-change t c =
+    step _ refl c.in_ok-begun.ensures (stop _ refl (exits c.from_residual-in_err-change.result _ c.from_residual-in_err-change.ensures.1)
+    (widened-at c.args.by.first c.ty.result (ty_of (types_of c.args.at c.args.of)) c.args.by.ty (change_view c.in_ok-begun.begun) c.ty.ensures
+    (c.in_err-change.ensures _)))
 
 pub update-returns-in_err-behind : goal.update-returns-in_err-behind
-update-returns-in_err-behind t c = ?
+update-returns-in_err-behind t c =
+    memory (exits c.from_residual-in_err-behind.result _ c.from_residual-in_err-behind.ensures.1 ∙ ap Err c.in_err-behind.ensures.memory)
 
 pub update-returns-in_err-free : goal.update-returns-in_err-free
-update-returns-in_err-free t c = ?
+update-returns-in_err-free t c =
+    memory (exits c.from_residual-in_err-free.result _ c.from_residual-in_err-free.ensures.1 ∙ ap Err c.in_err-free.ensures.memory)
 
 pub update-returns-in_err-free-2 : goal.update-returns-in_err-free-2
-update-returns-in_err-free-2 t c = ?
+update-returns-in_err-free-2 t c =
+    memory (exits c.from_residual-in_err-free-2.result _ c.from_residual-in_err-free-2.ensures.1 ∙ ap Err c.in_err-free-2.ensures.memory)
 
 pub update-returns-in_err-right : goal.update-returns-in_err-right
-update-returns-in_err-right t c = ?
+update-returns-in_err-right t c =
+    step _ refl c.in_ok-begun.ensures (step _ refl
+    (widened-at c.args.by.first c.ty.result (ty_of (types_of c.args.at c.args.of)) c.args.by.ty (change_view c.in_ok-begun.begun) c.ty.ensures
+    (c.in_ok-change.ensures _))
+    (stop _ refl (exits c.from_residual-in_err-right.result _ c.from_residual-in_err-right.ensures.1)
+    (value-at (inside_view c.args.at) (value_view (types_of c.args.at) c.args.e.now) c.if-by.free _ free-is c.in_err-right.ensures)))
+  where
+    free-is : c.if-by.free ≡ (if c.args.by.is_after then suc (suc c.args.k) else suc c.args.k)
+    free-is =
+        elim c.if-by.branch [
+          | update-then-by+in_ok-behind+in_ok-free w ↦ free-after _ _ _ _ _ w.if-by.true w.in_ok-behind.ensures.next w.in_ok-free.ensures.next w.free-is
+          | update-else-by+in_ok-free-2 w ↦ free-before _ _ _ _ w.if-by.false w.in_ok-free-2.ensures.next w.free-is
+        ]
 
 pub update-returns : goal.update-returns
-update-returns t c = ?
+update-returns t c =
+    step _ refl c.in_ok-begun.ensures (step _ refl
+    (widened-at c.args.by.first c.ty.result (ty_of (types_of c.args.at c.args.of)) c.args.by.ty (change_view c.in_ok-begun.begun) c.ty.ensures
+    (c.in_ok-change.ensures _))
+    (step _ refl (value-at (inside_view c.args.at) (value_view (types_of c.args.at) c.args.e.now) c.if-by.free _ free-is c.in_ok-right.ensures)
+    (changed-at c.args.by.is_after c.args.by.op c.args.by.ty c.ty-2.result (ty_of (types_of c.args.at c.args.of)) c.args.by.at c.args.line
+    (located_view c.args.located) (change_view c.in_ok-change.change) c.in_ok-right.right c.ty-2.ensures (c.end_update.ensures _))))
+  where
+    free-is : c.if-by.free ≡ (if c.args.by.is_after then suc (suc c.args.k) else suc c.args.k)
+    free-is =
+        elim c.if-by.branch [
+          | update-then-by+in_ok-behind+in_ok-free w ↦ free-after _ _ _ _ _ w.if-by.true w.in_ok-behind.ensures.next w.in_ok-free.ensures.next w.free-is
+          | update-else-by+in_ok-free-2 w ↦ free-before _ _ _ _ w.if-by.false w.in_ok-free-2.ensures.next w.free-is
+        ]
 
 pub value-returns-in_err-function_number-in-Function :
     goal.value-returns-in_err-function_number-in-Function
