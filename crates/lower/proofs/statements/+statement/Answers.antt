@@ -57,10 +57,34 @@ statement-returns-in-None t c =
     emit-step _ (if-row (inside_view c.args.at) (types_of c.args.at) c.args.stmt.now c.in-If.e c.get.result.now None
     (c.in-If.is ∙ (λ j. sn.If c.in-If.e (sym c.get.ensures j) (c.in-None.is j)))) c.in_ok-test-in-If.ensures c.only_if.ensures
 
+pub statement-returns-in_err-waits-in-Some : goal.statement-returns-in_err-waits-in-Some
+statement-returns-in_err-waits-in-Some t c =
+    run-memory (exits c.from_residual-in_err-waits-in-Some.result _ c.from_residual-in_err-waits-in-Some.ensures.1 ∙ ap Err c.in_err-waits-in-Some.ensures)
+
+pub statement-returns-in_err-statement-in-Some : goal.statement-returns-in_err-statement-in-Some
+statement-returns-in_err-statement-in-Some t c =
+    emit-step _ (if-row (inside_view c.args.at) (types_of c.args.at) c.args.stmt.now c.in-If.e c.get-in-Some.result.now (Some c.in-Some.b)
+    (c.in-If.is ∙ (λ j. sn.If c.in-If.e (sym c.get-in-Some.ensures j) (c.in-Some.is j)))) c.in_ok-test-in-If.ensures
+    (first-way-refused (rows_of c.args.at) c.args.stmt.now.line c.in_ok-test-in-If.test _ (record c.args.body.now { out = c.value-in-If.new.out }) c.jump_from.new.self c.in_ok-waits.ensures _ _ c.statement.new.body _ _ _ c.in_err-statement.ensures
+    (exits c.from_residual-in_err-statement.result _ c.from_residual-in_err-statement.ensures.1))
+
+pub statement-returns-in_err-over-in-Some : goal.statement-returns-in_err-over-in-Some
+statement-returns-in_err-over-in-Some t c =
+    run-memory (exits c.from_residual-in_err-over.result _ c.from_residual-in_err-over.ensures.1 ∙ ap Err c.in_err-over.ensures)
+
+pub statement-returns-in_err-statement-2 : goal.statement-returns-in_err-statement-2
+statement-returns-in_err-statement-2 t c =
+    emit-step _ (if-row (inside_view c.args.at) (types_of c.args.at) c.args.stmt.now c.in-If.e c.get-in-Some.result.now (Some c.get-in-Some-2.result.now)
+    (c.in-If.is ∙ (λ j. sn.If c.in-If.e (sym c.get-in-Some.ensures j) ((c.in-Some.is ∙ ap Some (sym c.get-in-Some-2.ensures)) j)))) c.in_ok-test-in-If.ensures
+    (second-way-refused (rows_of c.args.at) c.args.stmt.now.line c.in_ok-test-in-If.test _ (record c.args.body.now { out = c.value-in-If.new.out }) c.jump_from.new.self c.in_ok-waits.ensures _ _ c.statement.new.body tt _ c.turn.new.self c.in_ok-statement.ensures c.in_ok-over.ensures
+    c.statement-2.new.body _ _ _ c.in_err-statement-2.ensures (exits c.from_residual-in_err-statement-2.result _ c.from_residual-in_err-statement-2.ensures.1))
+
 pub statement-returns-in-Some : goal.statement-returns-in-Some
 statement-returns-in-Some t c =
-    emit-step _ (if-row (inside_view c.args.at) (types_of c.args.at) c.args.stmt.now c.in-If.e c.get-in-Some.result.now (Some c.get-2.result.now)
-    (c.in-If.is ∙ (λ j. sn.If c.in-If.e (sym c.get-in-Some.ensures j) ((c.in-Some.is ∙ ap Some (sym c.get-2.ensures)) j)))) c.in_ok-test-in-If.ensures c.either_way.ensures
+    emit-step _ (if-row (inside_view c.args.at) (types_of c.args.at) c.args.stmt.now c.in-If.e c.get-in-Some.result.now (Some c.get-in-Some-2.result.now)
+    (c.in-If.is ∙ (λ j. sn.If c.in-If.e (sym c.get-in-Some.ensures j) ((c.in-Some.is ∙ ap Some (sym c.get-in-Some-2.ensures)) j)))) c.in_ok-test-in-If.ensures
+    (both-ran (rows_of c.args.at) c.args.stmt.now.line c.in_ok-test-in-If.test _ (record c.args.body.now { out = c.value-in-If.new.out }) c.jump_from.new.self c.in_ok-waits.ensures _ _ c.statement.new.body tt _ c.turn.new.self c.in_ok-statement.ensures c.in_ok-over.ensures
+    c.statement-2.new.body c.lead_here.new.self tt c.in_ok-statement-2.ensures c.lead_here.ensures.allotted c.lead_here.ensures.led)
 
 pub statement-returns-in-While : goal.statement-returns-in-While
 statement-returns-in-While t c =
@@ -103,8 +127,8 @@ for_loop-returns-in_ok-compute-in-Value t c =
     emit-step _ (first-row (inside_view c.args.at) (types_of c.args.at) c.args.line c.args.head.now (stmt_view (types_of c.args.at) c.args.a.now) (option_copied c.given.result)
     (c.in-Value.is ∙ ap fs.Value (sym c.given.ensures)))
     c.in_ok-compute-in-Value.ensures
-    (run-same (λ j. looped (inside_view c.args.at) c.args.line (option_map (value_view (types_of c.args.at)) (sym c.given-2.ensures j)) (lowers (inside_view c.args.at) (stmt_view (types_of c.args.at) c.args.a.now))
-    (option_map (value_view (types_of c.args.at)) (sym c.given-3.ensures j)))
+    (run-same (λ j. looped (inside_view c.args.at) c.args.line (option_map (value_view (types_of c.args.at)) (sym c.given-in-Value.ensures j)) (lowers (inside_view c.args.at) (stmt_view (types_of c.args.at) c.args.a.now))
+    (option_map (value_view (types_of c.args.at)) (sym c.given-in-Value-2.ensures j)))
     c.rounds.ensures)
 
 pub for_loop-returns-in-Locals : goal.for_loop-returns-in-Locals
@@ -143,33 +167,6 @@ pub all_items-returns : goal.all_items-returns
 all_items-returns t c =
     c.loop-item.invariant c.loop-item.body (Ok tt)
     (run-same (items-end (inside_view c.args.at) (types_of c.args.at) c.args.items.now c.loop-item.item-index c.loop-item-test.false) run-given)
-
-pub either_way-returns-in_err-waits : goal.either_way-returns-in_err-waits
-either_way-returns-in_err-waits t c =
-    run-memory (exits c.from_residual.result _ c.from_residual.ensures.1 ∙ ap Err c.in_err-waits.ensures)
-
-pub either_way-returns-in_err-statement : goal.either_way-returns-in_err-statement
-either_way-returns-in_err-statement t c =
-    first-way-refused (rows_of c.args.at) c.args.line c.args.test _ c.args.body.now c.jump_from.new.self c.in_ok-waits.ensures _ _ c.statement.new.body _ _ _ c.in_err-statement.ensures
-    (exits c.from_residual-in_err-statement.result _ c.from_residual-in_err-statement.ensures.1)
-
-pub either_way-returns-in_err-over : goal.either_way-returns-in_err-over
-either_way-returns-in_err-over t c =
-    run-memory (exits c.from_residual-in_err-over.result _ c.from_residual-in_err-over.ensures.1 ∙ ap Err c.in_err-over.ensures)
-
-pub either_way-statement-requires-2 : goal.either_way-statement-requires-2
-either_way-statement-requires-2 t c =
-    c.decreases
-
-pub either_way-returns-in_err-statement-2 : goal.either_way-returns-in_err-statement-2
-either_way-returns-in_err-statement-2 t c =
-    second-way-refused (rows_of c.args.at) c.args.line c.args.test _ c.args.body.now c.jump_from.new.self c.in_ok-waits.ensures _ _ c.statement.new.body tt _ c.turn.new.self c.in_ok-statement.ensures c.in_ok-over.ensures
-    c.statement-2.new.body _ _ _ c.in_err-statement-2.ensures (exits c.from_residual-in_err-statement-2.result _ c.from_residual-in_err-statement-2.ensures.1)
-
-pub either_way-returns : goal.either_way-returns
-either_way-returns t c =
-    both-ran (rows_of c.args.at) c.args.line c.args.test _ c.args.body.now c.jump_from.new.self c.in_ok-waits.ensures _ _ c.statement.new.body tt _ c.turn.new.self c.in_ok-statement.ensures c.in_ok-over.ensures
-    c.statement-2.new.body c.lead_here.new.self tt c.in_ok-statement-2.ensures c.lead_here.ensures.allotted c.lead_here.ensures.led
 
 pub items_in_block-returns-in_err-begin_block : goal.items_in_block-returns-in_err-begin_block
 items_in_block-returns-in_err-begin_block t c =
