@@ -65,26 +65,26 @@ pub statement-returns-in_err-statement-in-Some : goal.statement-returns-in_err-s
 statement-returns-in_err-statement-in-Some t c =
     emit-step _ (if-row (inside_view c.args.at) (types_of c.args.at) c.args.stmt.now c.in-If.e c.get-in-Some.result.now (Some c.in-Some.b)
     (c.in-If.is ∙ (λ j. sn.If c.in-If.e (sym c.get-in-Some.ensures j) (c.in-Some.is j)))) c.in_ok-test-in-If.ensures
-    (first-way-refused (rows_of c.args.at) c.args.stmt.now.line c.in_ok-test-in-If.test _ (record c.args.body.now { out = c.value-in-If.new.out }) c.jump_from.new.self c.in_ok-waits.ensures _ _ c.statement.new.body _ _ _ c.in_err-statement.ensures
-    (exits c.from_residual-in_err-statement.result _ c.from_residual-in_err-statement.ensures.1))
+    (first-way-refused (rows_of c.args.at) c.args.stmt.now.line c.in_ok-test-in-If.test _ (record c.args.body.now { out = c.value-in-If.new.out }) c.jump_from.new.self c.in_ok-waits-in-Some.ensures _ _ c.statement.new.body _ _ _ c.in_err-statement-in-Some.ensures
+    (exits c.from_residual-in_err-statement-in-Some.result _ c.from_residual-in_err-statement-in-Some.ensures.1))
 
 pub statement-returns-in_err-over-in-Some : goal.statement-returns-in_err-over-in-Some
 statement-returns-in_err-over-in-Some t c =
-    run-memory (exits c.from_residual-in_err-over.result _ c.from_residual-in_err-over.ensures.1 ∙ ap Err c.in_err-over.ensures)
+    run-memory (exits c.from_residual-in_err-over-in-Some.result _ c.from_residual-in_err-over-in-Some.ensures.1 ∙ ap Err c.in_err-over-in-Some.ensures)
 
-pub statement-returns-in_err-statement-2 : goal.statement-returns-in_err-statement-2
-statement-returns-in_err-statement-2 t c =
+pub statement-returns-in_err-statement-in-Some-2 : goal.statement-returns-in_err-statement-in-Some-2
+statement-returns-in_err-statement-in-Some-2 t c =
     emit-step _ (if-row (inside_view c.args.at) (types_of c.args.at) c.args.stmt.now c.in-If.e c.get-in-Some.result.now (Some c.get-in-Some-2.result.now)
     (c.in-If.is ∙ (λ j. sn.If c.in-If.e (sym c.get-in-Some.ensures j) ((c.in-Some.is ∙ ap Some (sym c.get-in-Some-2.ensures)) j)))) c.in_ok-test-in-If.ensures
-    (second-way-refused (rows_of c.args.at) c.args.stmt.now.line c.in_ok-test-in-If.test _ (record c.args.body.now { out = c.value-in-If.new.out }) c.jump_from.new.self c.in_ok-waits.ensures _ _ c.statement.new.body tt _ c.turn.new.self c.in_ok-statement.ensures c.in_ok-over.ensures
-    c.statement-2.new.body _ _ _ c.in_err-statement-2.ensures (exits c.from_residual-in_err-statement-2.result _ c.from_residual-in_err-statement-2.ensures.1))
+    (second-way-refused (rows_of c.args.at) c.args.stmt.now.line c.in_ok-test-in-If.test _ (record c.args.body.now { out = c.value-in-If.new.out }) c.jump_from.new.self c.in_ok-waits-in-Some.ensures _ _ c.statement.new.body tt _ c.turn.new.self c.in_ok-statement-in-Some.ensures c.in_ok-over-in-Some.ensures
+    c.statement-in-Some.new.body _ _ _ c.in_err-statement-in-Some-2.ensures (exits c.from_residual-in_err-statement-in-Some-2.result _ c.from_residual-in_err-statement-in-Some-2.ensures.1))
 
-pub statement-returns-in-Some : goal.statement-returns-in-Some
-statement-returns-in-Some t c =
+pub statement-returns-in_ok-statement-in-Some-2 : goal.statement-returns-in_ok-statement-in-Some-2
+statement-returns-in_ok-statement-in-Some-2 t c =
     emit-step _ (if-row (inside_view c.args.at) (types_of c.args.at) c.args.stmt.now c.in-If.e c.get-in-Some.result.now (Some c.get-in-Some-2.result.now)
     (c.in-If.is ∙ (λ j. sn.If c.in-If.e (sym c.get-in-Some.ensures j) ((c.in-Some.is ∙ ap Some (sym c.get-in-Some-2.ensures)) j)))) c.in_ok-test-in-If.ensures
-    (both-ran (rows_of c.args.at) c.args.stmt.now.line c.in_ok-test-in-If.test _ (record c.args.body.now { out = c.value-in-If.new.out }) c.jump_from.new.self c.in_ok-waits.ensures _ _ c.statement.new.body tt _ c.turn.new.self c.in_ok-statement.ensures c.in_ok-over.ensures
-    c.statement-2.new.body c.lead_here.new.self tt c.in_ok-statement-2.ensures c.lead_here.ensures.allotted c.lead_here.ensures.led)
+    (both-ran (rows_of c.args.at) c.args.stmt.now.line c.in_ok-test-in-If.test _ (record c.args.body.now { out = c.value-in-If.new.out }) c.jump_from.new.self c.in_ok-waits-in-Some.ensures _ _ c.statement.new.body tt _ c.turn.new.self c.in_ok-statement-in-Some.ensures c.in_ok-over-in-Some.ensures
+    c.statement-in-Some.new.body c.lead_here.new.self tt c.in_ok-statement-in-Some-2.ensures c.lead_here.ensures.allotted c.lead_here.ensures.led)
 
 pub statement-returns-in-While : goal.statement-returns-in-While
 statement-returns-in-While t c =
