@@ -1,24 +1,23 @@
 -- What the rounds of loops run, from what their parts do.
-use Rattle.std.proofs.Common.{◌≡◌, ◌∙◌, ℕ, List, [], ◌∷◌, length, Option, Some, None, Result, Ok, Err, refl, sym, ap, subst}
+use Rattle.std.proofs.Common.{◌≡◌, ◌∙◌, ℕ, List, [], ◌∷◌, Option, Some, None, Result, Ok, Err, refl, sym, subst}
 use Rattle.std.specs.Prelude.{⊤}
 use Rattle.std.specs.declared.alloc.Global.{Global}
 use Rattle.std.specs.declared.vec.Vec.{Vec}
 use Rattle.c_types.specs.declared.type_ref.Row.{Row}
 use Rattle.c_typed.specs.Typed.{Value}
-use Rattle.mid_code.specs.declared.mid.Mid.{Mid}
 use Rattle.mid_code.specs.declared.mid.Mid.TheVariants as mid
 use Rattle.lower.specs.declared.allotted.Allotted.{Allotted as CodeAllotted}
 use Rattle.lower.specs.declared.body.Body.{Body}
 use Rattle.lower.specs.declared.emitter.Emitter.{Emitter}
 use Rattle.lower.specs.declared.refusal.LowerRefusal.{LowerRefusal}
 use Rattle.lower.specs.declared.refusal.LowerRefusal.TheVariants.{TooManyRegisters, TooLong, Memory}
-use Rattle.lower.specs.Emitting.{Line, Code, Made, Making, emits_code, apart}
+use Rattle.lower.specs.Emitting.{Line, Code, Made, Making, emits_code}
 use Rattle.lower.specs.Expressions.{Inside, value_of}
 use Rattle.lower.specs.Instructions.{told}
 use Rattle.lower.specs.Drafts.{code_of}
 use Rattle.lower.specs.SoFar.{Leads, IsHere}
 use Rattle.lower.specs.Statements.{looped, do_looped, loop_code, do_code, tested, done}
-use Rattle.lower.specs.Emits.{nothing, itself, AllStand, allotted_view, EmitsAs, Emits, emits_mid}
+use Rattle.lower.specs.Emits.{nothing, itself, allotted_view, EmitsAs, Emits, emits_mid}
 use Rattle.lower.specs.Runs.{Runs}
 use Rattle.lower.specs.Bodies.{EntersLoop, LeavesLoop, LeavesUnless, LandsIf}
 use Rattle.lower.proofs.Parts.{GivesAs, Gives, Ran, Grew, by-runs, by-emits, to-runs, apart-step, apart-pass, apart-stop, together, gives-same}

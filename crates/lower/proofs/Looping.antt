@@ -1,14 +1,14 @@
 -- The code of a loop, once it is known where its jumps lead.
-use Rattle.std.proofs.Common.{◌≡◌, ◌≤◌, ◌<◌, ℕ, zero, suc, ◌+◌, Bool, true, false, List, [], ◌∷◌, ◌++◌, length, Option, Some, None, option_map, ◌⊎◌, inl, inr, refl, sym, ◌∙◌, ap, subst, arith, nat_lt}
+use Rattle.std.proofs.Common.{◌≡◌, ◌≤◌, ◌<◌, ℕ, suc, ◌+◌, Bool, true, false, List, [], ◌∷◌, ◌++◌, length, Option, Some, None, option_map, ◌⊎◌, inl, inr, refl, sym, ◌∙◌, ap, subst, arith, nat_lt}
 use Rattle.std.proofs.lemmas.List.{length-append, append_assoc, append-nil}
 use Rattle.std.proofs.lemmas.Bool.Decides.{nat_tests}
 use Rattle.mid_code.specs.declared.mid.Mid.TheVariants as mid
-use Rattle.lower.specs.Emitting.{Line, Code, Around, at_line, no_code}
+use Rattle.lower.specs.Emitting.{Line, Code, Around, at_line}
 use Rattle.lower.specs.Jumps.{LandsIn}
 use Rattle.lower.specs.Expressions.{Inside}
 use Rattle.lower.specs.SoFar.{Lines, with_line, if_room, added, grown, landed, line_to, IsHere, most_instructions}
 use Rattle.lower.specs.Statements.{leaves_at, loop_code, do_code, within}
-use Rattle.lower.proofs.Growing.{added-none, added-append, grown-at, grown-none}
+use Rattle.lower.proofs.Growing.{added-none, added-append, grown-at}
 
 -- ---- code that fits, or does not
 

@@ -1,17 +1,17 @@
 -- What a construct makes whose parts are made apart: the code of each part stands in a place of its own.
-use Rattle.std.proofs.Common.{◌≡◌, ℕ, ◌+◌, List, [], ◌∷◌, ◌++◌, Result, Ok, Err, refl, sym, ◌∙◌, ap, subst, arith}
+use Rattle.std.proofs.Common.{◌≡◌, ℕ, ◌+◌, List, Result, Ok, Err, refl, sym, ap, subst, arith}
 use Rattle.std.proofs.lemmas.List.{append-nil}
-use Rattle.std.specs.Prelude.{⊤, length}
+use Rattle.std.specs.Prelude.{⊤}
 use Rattle.c_types.specs.declared.type_ref.Row.{Row}
 use Rattle.lower.specs.declared.allotted.Allotted.{Allotted as CodeAllotted}
 use Rattle.lower.specs.declared.body.Body.{Body}
 use Rattle.lower.specs.declared.emitter.Emitter.{Emitter}
 use Rattle.lower.specs.declared.refusal.LowerRefusal.{LowerRefusal}
 use Rattle.lower.specs.declared.refusal.LowerRefusal.TheVariants.{TooManyRegisters, TooLong, Memory}
-use Rattle.lower.specs.Emitting.{Code, ◌⨟◌, no_code, Around, Allotted, Made, Making, made, behind, and_then, ◌>>=◌, ◌>>◌, pure, apart, code_of as code_apart, wrapped, around_code, emits_code}
+use Rattle.lower.specs.Emitting.{Code, ◌⨟◌, no_code, Made, Making, behind, and_then, ◌>>=◌, ◌>>◌, pure, apart, code_of as code_apart, wrapped, around_code, emits_code}
 use Rattle.lower.specs.Drafts.{code_of}
 use Rattle.lower.specs.Emits.{AllStand, allotted_view, Grows, Makes, EmitsAs, Emits}
-use Rattle.lower.specs.Runs.{around_of, SameObjects, GrowsAround, MakesAround, RunsAs, Runs}
+use Rattle.lower.specs.Runs.{SameObjects, GrowsAround, MakesAround, RunsAs, Runs}
 
 -- ---- no code before and behind
 

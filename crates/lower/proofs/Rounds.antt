@@ -1,11 +1,10 @@
 -- What the rounds of a loop run.
-use Rattle.std.proofs.Common.{◌≡◌, ℕ, suc, ◌+◌, ◌-◌, List, [], ◌∷◌, ◌++◌, length, take, reverse, Option, Some, None, Result, Ok, Err, refl, sym, ◌∙◌, ap, subst, arith}
+use Rattle.std.proofs.Common.{◌≡◌, ℕ, ◌+◌, ◌-◌, List, [], ◌∷◌, ◌++◌, length, take, reverse, Option, Some, None, Result, Ok, Err, refl, sym, ◌∙◌, ap, subst, arith}
 use Rattle.std.specs.Prelude.{⊤}
 use Rattle.std.specs.declared.alloc.Global.{Global}
 use Rattle.std.specs.declared.vec.Vec.{Vec}
 use Rattle.std.proofs.lemmas.List.{length-append, reverse-append}
 use Rattle.std.proofs.Math.Seq.{take-append_seam}
-use Rattle.mid_code.specs.declared.mid.Mid.{Mid}
 use Rattle.mid_code.specs.declared.mid.Mid.TheVariants as mid
 use Rattle.c_types.specs.declared.type_ref.Row.{Row}
 use Rattle.lower.specs.declared.allotted.Allotted.{Allotted as CodeAllotted}
@@ -13,14 +12,13 @@ use Rattle.lower.specs.declared.body.Body.{Body}
 use Rattle.lower.specs.declared.emitter.Emitter.{Emitter}
 use Rattle.lower.specs.declared.refusal.LowerRefusal.{LowerRefusal}
 use Rattle.lower.specs.declared.refusal.LowerRefusal.TheVariants.{TooManyRegisters, TooLong, Memory}
-use Rattle.lower.specs.Emitting.{Line, Code, Around, at_line, Made, Making, emits_code}
+use Rattle.lower.specs.Emitting.{Line, Code, Around, at_line, Making, emits_code}
 use Rattle.lower.specs.Expressions.{Inside}
 use Rattle.lower.specs.Instructions.{told}
-use Rattle.lower.specs.SoFar.{Leads, leads_of, Lines, with_line, added, grown, IsHere}
+use Rattle.lower.specs.SoFar.{Leads, Lines, with_line, added, grown, IsHere}
 use Rattle.lower.specs.Drafts.{code_of}
-use Rattle.lower.specs.Emits.{AllStand, allotted_view, Grows, Makes, Emits}
-use Rattle.lower.specs.Runs.{around_of, SameObjects, GrowsAround}
-use Rattle.lower.specs.Jumps.{LandsIn}
+use Rattle.lower.specs.Emits.{allotted_view, Makes, Emits}
+use Rattle.lower.specs.Runs.{around_of, SameObjects}
 use Rattle.lower.specs.Bodies.{EntersLoop, LeavesLoop, LeavesUnless, LandsIf}
 use Rattle.lower.specs.Statements.{leaves_at, loop_code, do_code, within}
 use Rattle.lower.proofs.Parts.{Gives, GivesAs, GivesMade, Ran, Grew}

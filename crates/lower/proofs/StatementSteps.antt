@@ -1,11 +1,10 @@
 -- What the parts of a block run one after another, the ways of an `if`, and blocks.
-use Rattle.std.proofs.Common.{◌≡◌, ◌∙◌, ℕ, zero, suc, ◌+◌, ◌<◌, ◌≤◌, List, [], ◌∷◌, length, map, get_or, drop, Option, Some, None, Result, Ok, Err, refl, sym, ap, subst, arith}
+use Rattle.std.proofs.Common.{◌≡◌, ◌∙◌, ℕ, ◌+◌, ◌<◌, ◌≤◌, List, length, map, get_or, drop, Result, Ok, Err, refl, sym, ap, subst}
 use Rattle.std.specs.Prelude.{⊤}
 use Rattle.std.proofs.lemmas.List.{drop_all}
 use Rattle.c_types.specs.declared.type_ref.TypeRef.{TypeRef}
 use Rattle.c_types.specs.declared.type_ref.Row.{Row}
 use Rattle.c_types.specs.Types.{CType}
-use Rattle.mid_code.specs.declared.mid.Mid.{Mid}
 use Rattle.mid_code.specs.declared.mid.Mid.TheVariants as mid
 use Rattle.c_typed.specs.declared.statement.LocalItem.{LocalItem as CodeLocalItem}
 use Rattle.c_typed.specs.declared.statement.BlockItem as code_block_item
@@ -17,21 +16,20 @@ use Rattle.c_typed.specs.StatementViews.{BlockView, all_items, local_item_view, 
 use Rattle.lower.specs.declared.body.Body.{Body}
 use Rattle.lower.specs.declared.emitter.Emitter.{Emitter}
 use Rattle.lower.specs.declared.refusal.LowerRefusal.{LowerRefusal}
-use Rattle.lower.specs.declared.refusal.LowerRefusal.TheVariants.{Memory}
-use Rattle.lower.specs.Emitting.{Code, Made, Making, and_then, ◌>>=◌, ◌>>◌, pure, at_line, jumped, parted, wrapped, apart, two_ways, emits_code}
+use Rattle.lower.specs.Emitting.{Code, Made, Making, and_then, ◌>>=◌, ◌>>◌, pure, jumped, parted, wrapped, two_ways}
 use Rattle.lower.specs.Expressions.{Inside}
 use Rattle.lower.specs.Drafts.{code_of}
-use Rattle.lower.specs.SoFar.{Leads, grown, line_to, IsHere}
+use Rattle.lower.specs.SoFar.{grown}
 use Rattle.lower.specs.Statements.{lowers, lowers_items, all_initialize, in_block, all_begin, begun_at}
-use Rattle.lower.specs.Emits.{nothing, Emits}
-use Rattle.lower.specs.Runs.{around_of, SameObjects, Runs, Begins}
+use Rattle.lower.specs.Emits.{nothing}
+use Rattle.lower.specs.Runs.{around_of, Runs, Begins}
 use Rattle.lower.specs.Jumps.{LandsHere, Waiting, Turning}
 use Rattle.lower.specs.Bodies.{ClosesDownTo}
 use Rattle.lower.proofs.Landing.{behind-jump, behind-both}
 use Rattle.lower.proofs.LocalSteps.{rest-at}
-use Rattle.lower.proofs.RunSteps.{run-step, run-stop, run-given, run-memory, run-same, run-answer, emitted, around-same}
-use Rattle.lower.proofs.Parts.{after, Gives, Ran, by-runs, to-runs, apart-step, apart-pass, apart-stop, together-given, gives-same, gives-answer, refused-any, wrap-step}
-use Rattle.lower.proofs.Blocks.{block, block-refused, block-begin-refused}
+use Rattle.lower.proofs.RunSteps.{run-memory, run-answer, around-same}
+use Rattle.lower.proofs.Parts.{after, Ran, by-runs, to-runs, apart-step, apart-pass, apart-stop, together-given, gives-same, refused-any, wrap-step}
+use Rattle.lower.proofs.Blocks.{block, block-refused}
 use Rattle.lower.proofs.StatementRows.{statement-row, declaration-row, no_items-row}
 
 -- ---- the parts of a block

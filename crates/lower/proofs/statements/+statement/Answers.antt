@@ -1,17 +1,16 @@
-use Rattle.std.proofs.Common.{refl, sym, ◌∙◌, ap, subst, Ok, Err, Some, None, map, drop}
+use Rattle.std.proofs.Common.{refl, sym, ◌∙◌, ap, Ok, Err, Some, None, map}
 use Rattle.std.specs.Prelude.{option_map}
 use Rattle.std.specs.Option.{option_copied}
 use Rattle.c_typed.specs.declared.statement.StmtNode.TheVariants as sn
 use Rattle.c_typed.specs.declared.statement.ForStart.TheVariants as fs
 use Rattle.c_typed.specs.declared.statement.BlockItem.TheVariants as bi
-use Rattle.c_typed.specs.Statements.{no_items}
 use Rattle.c_typed.specs.StatementViews.{stmt_view, all_items as items_of, block_item_view, local_item_view}
 use Rattle.c_typed.specs.Views.{value_view}
 use Rattle.lower.specs.declared.refusal.LowerRefusal.TheVariants.{Memory}
 use Rattle.lower.specs.Emits.{nothing, rows_of, types_of, inside_view}
 use Rattle.lower.proofs.Steps.{exits}
-use Rattle.lower.proofs.RunSteps.{run-step, run-stop, run-given, run-memory, run-same, run-answer, emit-step, emit-stop, emitted}
-use Rattle.lower.proofs.StatementRows.{if_rest, block-row, empty-row, value-row, if-row, while-row, do-row, for-row, continue-row, break-row, return-row, first-row, locals-row, statement-row, declaration-row, no_items-row}
+use Rattle.lower.proofs.RunSteps.{run-step, run-stop, run-given, run-memory, run-same, emit-step, emit-stop, emitted}
+use Rattle.lower.proofs.StatementRows.{block-row, empty-row, value-row, if-row, while-row, do-row, for-row, continue-row, break-row, return-row, first-row, locals-row}
 use Rattle.source_meaning.specs.Statements.{locals_of, numbers_of}
 use Rattle.lower.specs.Statements.{lowers, lowers_items, in_block, looped}
 use Rattle.lower.proofs.Blocks.{block-begin-refused}
