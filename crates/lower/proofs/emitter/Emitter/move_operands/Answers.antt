@@ -1,4 +1,4 @@
-use Rattle.std.proofs.Common.{ap, true, false}
+use Rattle.std.proofs.Common.{ap}
 use Rattle.lower.specs.Emits.{types_of}
 use Rattle.lower.specs.Expressions.{moves_pointer}
 use Rattle.lower.proofs.Steps.{same-making}
