@@ -8,6 +8,7 @@ mod Emitted
 mod EmittedParts
 mod EntityNumbers
 mod EntityValues
+mod FunctionParts
 mod FunctionTypes
 mod Growing
 mod Jumping
@@ -15,7 +16,9 @@ mod Landing
 mod LocalSteps
 mod Looping
 mod LoweredFunctions
+mod LoweredPrograms
 mod OpenLoops
+mod Parameters
 mod Parts
 mod PlacesFound
 mod PointedTypes
@@ -28,3 +31,4 @@ mod StatementRows
 mod Steps
 mod Targets
 mod ValueLists
+mod WholeFunctions

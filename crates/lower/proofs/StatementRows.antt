@@ -27,7 +27,7 @@ use Rattle.lower.specs.Statements.{lowers, lowers_items, in_block, looped, do_lo
 use Rattle.lower.specs.Nodes.{for_of}
 
 -- the parts of a block
-block_parts : (types : TypeRef → CType) (b : code_block.Block)
+pub block_parts : (types : TypeRef → CType) (b : code_block.Block)
     → block_view types b ≡ record { line = b.line; items = all_items (map (block_item_view types) b.items); end = b.end }
 block_parts types b =
     ap (block_view types) (sym (code_block.rolls-Block' (record { line = b.line; items = b.items; end = b.end })))
