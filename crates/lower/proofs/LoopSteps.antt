@@ -68,7 +68,8 @@ module _ (rows : List Row) (i : Inside) (line top : ℕ) (b0 b1 : Body) (objects
       pub test-refused : (out3 : Emitter) (new : Body) (r : Result ⊤ LowerRefusal) (e : LowerRefusal)
           → Emits (λ x. x) rows out2 out3 (Err e) (tested i test) → r ≡ Err e → Runs nothing rows b0 new r (looped i line test body step)
       test-refused out3 new r e first out =
-          to-runs (turn-passed (looped i line test body step) (apart-stop {view = λ x. x} {next_view = nothing} {P = Grew out2 out3} _ refl out (by-emits first)))
+          to-runs (turn-passed (looped i line test body step)
+          (apart-stop {view = λ x. x} {next_view = nothing} {P = Grew out2 out3} _ refl out (by-emits first)))
 
       module _ (out3 out4 : Emitter) (t at : Option ℕ) (first : Emits (λ x. x) rows out2 out3 (Ok t) (tested i test))
           (unless : LeavesUnless line t out3 out4 (Ok at)) where
@@ -117,7 +118,8 @@ module _ (rows : List Row) (i : Inside) (line top : ℕ) (b0 b1 : Body) (objects
                 one-step {y = z} (told line (mid.Jump top)) {view = nothing} jump (λ jump1.
                 gives-same refl (sym (leave.allotted ∙ lands-allotted at out7 out8 led))
                 (together (loop_code i line t c d s)
-                (rounds-ran i line top C b0 b1 b5 new objects d start enter here t at c s out2 out3 out4 out6 out7 out8 turn1 grew unless ran1 grew1 jump1 led leave)))))))))
+                (rounds-ran i line top C b0 b1 b5 new objects d start enter here t at c s out2 out3 out4 out6 out7 out8 turn1 grew unless ran1 grew1 jump1
+                led leave)))))))))
 
     -- ---- `do`)
 

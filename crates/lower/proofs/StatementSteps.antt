@@ -148,7 +148,8 @@ module _ (rows : List Row) (line x at : ℕ) (s0 : Body) (out1 : Emitter) (waits
 
 -- ---- blocks
 
-module _ (rows : List Row) (i : Inside) (locals : List ℕ) (line : ℕ) (n : Making (Unit {0})) (s p : Body) (stay : ℕ) (is : stay ≡ length s.objects.items) (x : ⊤)
+module _ (rows : List Row) (i : Inside) (locals : List ℕ) (line : ℕ) (n : Making (Unit {0})) (s p : Body) (stay : ℕ) (is : stay ≡ length s.objects.items)
+    (x : ⊤)
     (begins : Begins nothing rows (λ start. begun_at i.rows start locals) s p (Ok x) (all_begin i locals)) where
   pub block-closed : (q r : Body) (y : ⊤) (result : Result ⊤ LowerRefusal) → Runs nothing rows p q (Ok y) n → ClosesDownTo line stay q r result
       → Runs nothing rows s r result (in_block i locals line n)

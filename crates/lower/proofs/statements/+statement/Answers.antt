@@ -64,7 +64,8 @@ pub statement-returns-in_err-statement-in-Some : goal.statement-returns-in_err-s
 statement-returns-in_err-statement-in-Some t c =
     emit-step _ (if-row (inside_view c.args.at) (types_of c.args.at) c.args.stmt.now c.in-If.e c.get-in-Some.result.now (Some c.in-Some.b)
     (c.in-If.is ∙ (λ j. sn.If c.in-If.e (sym c.get-in-Some.ensures j) (c.in-Some.is j)))) c.in_ok-test-in-If.ensures
-    (first-way-refused (rows_of c.args.at) c.args.stmt.now.line c.in_ok-test-in-If.test _ (record c.args.body.now { out = c.value-in-If.new.out }) c.jump_from.new.self c.in_ok-waits-in-Some.ensures _ _ c.statement.new.body _ _ _ c.in_err-statement-in-Some.ensures
+    (first-way-refused (rows_of c.args.at) c.args.stmt.now.line c.in_ok-test-in-If.test _ (record c.args.body.now { out = c.value-in-If.new.out })
+    c.jump_from.new.self c.in_ok-waits-in-Some.ensures _ _ c.statement.new.body _ _ _ c.in_err-statement-in-Some.ensures
     (exits c.from_residual-in_err-statement-in-Some.result _ c.from_residual-in_err-statement-in-Some.ensures.1))
 
 pub statement-returns-in_err-over-in-Some : goal.statement-returns-in_err-over-in-Some
@@ -75,14 +76,19 @@ pub statement-returns-in_err-statement-in-Some-2 : goal.statement-returns-in_err
 statement-returns-in_err-statement-in-Some-2 t c =
     emit-step _ (if-row (inside_view c.args.at) (types_of c.args.at) c.args.stmt.now c.in-If.e c.get-in-Some.result.now (Some c.get-in-Some-2.result.now)
     (c.in-If.is ∙ (λ j. sn.If c.in-If.e (sym c.get-in-Some.ensures j) ((c.in-Some.is ∙ ap Some (sym c.get-in-Some-2.ensures)) j)))) c.in_ok-test-in-If.ensures
-    (second-way-refused (rows_of c.args.at) c.args.stmt.now.line c.in_ok-test-in-If.test _ (record c.args.body.now { out = c.value-in-If.new.out }) c.jump_from.new.self c.in_ok-waits-in-Some.ensures _ _ c.statement.new.body tt _ c.turn.new.self c.in_ok-statement-in-Some.ensures c.in_ok-over-in-Some.ensures
-    c.statement-in-Some.new.body _ _ _ c.in_err-statement-in-Some-2.ensures (exits c.from_residual-in_err-statement-in-Some-2.result _ c.from_residual-in_err-statement-in-Some-2.ensures.1))
+    (second-way-refused (rows_of c.args.at) c.args.stmt.now.line c.in_ok-test-in-If.test _ (record c.args.body.now { out = c.value-in-If.new.out })
+    c.jump_from.new.self c.in_ok-waits-in-Some.ensures _ _ c.statement.new.body tt _ c.turn.new.self c.in_ok-statement-in-Some.ensures
+    c.in_ok-over-in-Some.ensures
+    c.statement-in-Some.new.body _ _ _ c.in_err-statement-in-Some-2.ensures
+    (exits c.from_residual-in_err-statement-in-Some-2.result _ c.from_residual-in_err-statement-in-Some-2.ensures.1))
 
 pub statement-returns-in_ok-statement-in-Some-2 : goal.statement-returns-in_ok-statement-in-Some-2
 statement-returns-in_ok-statement-in-Some-2 t c =
     emit-step _ (if-row (inside_view c.args.at) (types_of c.args.at) c.args.stmt.now c.in-If.e c.get-in-Some.result.now (Some c.get-in-Some-2.result.now)
     (c.in-If.is ∙ (λ j. sn.If c.in-If.e (sym c.get-in-Some.ensures j) ((c.in-Some.is ∙ ap Some (sym c.get-in-Some-2.ensures)) j)))) c.in_ok-test-in-If.ensures
-    (both-ran (rows_of c.args.at) c.args.stmt.now.line c.in_ok-test-in-If.test _ (record c.args.body.now { out = c.value-in-If.new.out }) c.jump_from.new.self c.in_ok-waits-in-Some.ensures _ _ c.statement.new.body tt _ c.turn.new.self c.in_ok-statement-in-Some.ensures c.in_ok-over-in-Some.ensures
+    (both-ran (rows_of c.args.at) c.args.stmt.now.line c.in_ok-test-in-If.test _ (record c.args.body.now { out = c.value-in-If.new.out })
+    c.jump_from.new.self c.in_ok-waits-in-Some.ensures _ _ c.statement.new.body tt _ c.turn.new.self c.in_ok-statement-in-Some.ensures
+    c.in_ok-over-in-Some.ensures
     c.statement-in-Some.new.body c.lead_here.new.self tt c.in_ok-statement-in-Some-2.ensures c.lead_here.ensures.allotted c.lead_here.ensures.led)
 
 pub statement-returns-in-While : goal.statement-returns-in-While
@@ -117,22 +123,26 @@ statement-returns-in_ok-source-in-Return t c =
 
 pub for_loop-returns-in_err-compute-in-Value : goal.for_loop-returns-in_err-compute-in-Value
 for_loop-returns-in_err-compute-in-Value t c =
-    emit-stop _ (first-row (inside_view c.args.at) (types_of c.args.at) c.args.line c.args.head.now (stmt_view (types_of c.args.at) c.args.a.now) (option_copied c.given.result)
+    emit-stop _ (first-row (inside_view c.args.at) (types_of c.args.at) c.args.line c.args.head.now (stmt_view (types_of c.args.at) c.args.a.now)
+    (option_copied c.given.result)
     (c.in-Value.is ∙ ap fs.Value (sym c.given.ensures)))
     (exits c.from_residual.result _ c.from_residual.ensures.1) refl c.in_err-compute-in-Value.ensures
 
 pub for_loop-returns-in_ok-compute-in-Value : goal.for_loop-returns-in_ok-compute-in-Value
 for_loop-returns-in_ok-compute-in-Value t c =
-    emit-step _ (first-row (inside_view c.args.at) (types_of c.args.at) c.args.line c.args.head.now (stmt_view (types_of c.args.at) c.args.a.now) (option_copied c.given.result)
+    emit-step _ (first-row (inside_view c.args.at) (types_of c.args.at) c.args.line c.args.head.now (stmt_view (types_of c.args.at) c.args.a.now)
+    (option_copied c.given.result)
     (c.in-Value.is ∙ ap fs.Value (sym c.given.ensures)))
     c.in_ok-compute-in-Value.ensures
-    (run-same (λ j. looped (inside_view c.args.at) c.args.line (option_map (value_view (types_of c.args.at)) (sym c.given-in-Value.ensures j)) (lowers (inside_view c.args.at) (stmt_view (types_of c.args.at) c.args.a.now))
+    (run-same (λ j. looped (inside_view c.args.at) c.args.line (option_map (value_view (types_of c.args.at)) (sym c.given-in-Value.ensures j))
+    (lowers (inside_view c.args.at) (stmt_view (types_of c.args.at) c.args.a.now))
     (option_map (value_view (types_of c.args.at)) (sym c.given-in-Value-2.ensures j)))
     c.rounds.ensures)
 
 pub for_loop-returns-in-Locals : goal.for_loop-returns-in-Locals
 for_loop-returns-in-Locals t c =
-    run-same (locals-row (inside_view c.args.at) (types_of c.args.at) c.args.line c.args.head.now (stmt_view (types_of c.args.at) c.args.a.now) c.as_slice.result.now
+    run-same (locals-row (inside_view c.args.at) (types_of c.args.at) c.args.line c.args.head.now (stmt_view (types_of c.args.at) c.args.a.now)
+    c.as_slice.result.now
     (c.in-Locals.is ∙ ap fs.Locals (sym c.as_slice.ensures))) c.rounds_with.ensures
 
 -- ---- the parts of a block
@@ -143,7 +153,8 @@ block_item-returns-in-Statement t c =
 
 pub block_item-returns-in-Declaration : goal.block_item-returns-in-Declaration
 block_item-returns-in-Declaration t c =
-    run-same (declaration-alone (inside_view c.args.at) (types_of c.args.at) c.args.item.now c.as_slice.result.now (c.in-Declaration.is ∙ ap bi.Declaration (sym c.as_slice.ensures)))
+    run-same (declaration-alone (inside_view c.args.at) (types_of c.args.at) c.args.item.now c.as_slice.result.now
+    (c.in-Declaration.is ∙ ap bi.Declaration (sym c.as_slice.ensures)))
     (emitted {old = c.args.body.now} c.initialize_all.ensures)
 
 pub all_items-loop-item-init : goal.all_items-loop-item-init
@@ -152,14 +163,16 @@ all_items-loop-item-init t c = λ final r h. h
 pub all_items-returns-in_err-block_item : goal.all_items-returns-in_err-block_item
 all_items-returns-in_err-block_item t c =
     c.loop-item.invariant _ _
-    (run-stop _ (items-row (inside_view c.args.at) (types_of c.args.at) c.args.items.now c.loop-item.item-index c.item-item.result c.loop-item-test.true c.item-item.is)
+    (run-stop _ (items-row (inside_view c.args.at) (types_of c.args.at) c.args.items.now c.loop-item.item-index c.item-item.result c.loop-item-test.true
+    c.item-item.is)
     (exits c.from_residual.result _ c.from_residual.ensures.1) c.in_err-block_item.ensures)
 
 pub all_items-loop-item-preserved : goal.all_items-loop-item-preserved
 all_items-loop-item-preserved t c =
     λ final r h.
     c.loop-item.invariant final r
-    (run-step _ (items-row (inside_view c.args.at) (types_of c.args.at) c.args.items.now c.loop-item.item-index c.item-item.result c.loop-item-test.true c.item-item.is)
+    (run-step _ (items-row (inside_view c.args.at) (types_of c.args.at) c.args.items.now c.loop-item.item-index c.item-item.result c.loop-item-test.true
+    c.item-item.is)
     c.in_ok-block_item.ensures h)
 
 pub all_items-returns : goal.all_items-returns
@@ -169,17 +182,20 @@ all_items-returns t c =
 
 pub items_in_block-returns-in_err-begin_block : goal.items_in_block-returns-in_err-begin_block
 items_in_block-returns-in_err-begin_block t c =
-    block-begin-refused {view = nothing} (inside_view c.args.at) (locals_of (items_of (map (block_item_view (types_of c.args.at)) c.args.items.now))) c.args.line _ c.args.body.now c.begin_block.new.body _
+    block-begin-refused {view = nothing} (inside_view c.args.at) (locals_of (items_of (map (block_item_view (types_of c.args.at)) c.args.items.now)))
+    c.args.line _ c.args.body.now c.begin_block.new.body _
     (exits c.from_residual.result _ c.from_residual.ensures.1) c.in_err-begin_block.ensures
 
 pub items_in_block-returns-in_err-all_items : goal.items_in_block-returns-in_err-all_items
 items_in_block-returns-in_err-all_items t c =
-    inside-refused (rows_of c.args.at) (inside_view c.args.at) (locals_of (items_of (map (block_item_view (types_of c.args.at)) c.args.items.now))) c.args.line _ c.args.body.now c.begin_block.new.body _ refl tt c.in_ok-begin_block.ensures
+    inside-refused (rows_of c.args.at) (inside_view c.args.at) (locals_of (items_of (map (block_item_view (types_of c.args.at)) c.args.items.now)))
+    c.args.line _ c.args.body.now c.begin_block.new.body _ refl tt c.in_ok-begin_block.ensures
     c.all_items.new.body _ _ _ c.in_err-all_items.ensures (exits c.from_residual-in_err-all_items.result _ c.from_residual-in_err-all_items.ensures.1)
 
 pub items_in_block-returns : goal.items_in_block-returns
 items_in_block-returns t c =
-    block-closed (rows_of c.args.at) (inside_view c.args.at) (locals_of (items_of (map (block_item_view (types_of c.args.at)) c.args.items.now))) c.args.line _ c.args.body.now c.begin_block.new.body c.len-stay.result (c.len-stay.ensures ∙ c.args.body.now.objects.ok.0) tt c.in_ok-begin_block.ensures
+    block-closed (rows_of c.args.at) (inside_view c.args.at) (locals_of (items_of (map (block_item_view (types_of c.args.at)) c.args.items.now))) c.args.line
+    _ c.args.body.now c.begin_block.new.body c.len-stay.result (c.len-stay.ensures ∙ c.args.body.now.objects.ok.0) tt c.in_ok-begin_block.ensures
     c.all_items.new.body _ tt _ c.in_ok-all_items.ensures c.close_down_to.ensures
 
 pub only_if-returns-in_err-waits : goal.only_if-returns-in_err-waits
@@ -188,12 +204,14 @@ only_if-returns-in_err-waits t c =
 
 pub only_if-returns-in_err-statement : goal.only_if-returns-in_err-statement
 only_if-returns-in_err-statement t c =
-    over-refused (rows_of c.args.at) c.args.line c.args.test _ c.args.body.now c.jump_from.new.self c.in_ok-waits.ensures _ c.statement.new.body _ _ _ c.in_err-statement.ensures
+    over-refused (rows_of c.args.at) c.args.line c.args.test _ c.args.body.now c.jump_from.new.self c.in_ok-waits.ensures _ c.statement.new.body _ _ _
+    c.in_err-statement.ensures
     (exits c.from_residual-in_err-statement.result _ c.from_residual-in_err-statement.ensures.1)
 
 pub only_if-returns : goal.only_if-returns
 only_if-returns t c =
-    over-ran (rows_of c.args.at) c.args.line c.args.test _ c.args.body.now c.jump_from.new.self c.in_ok-waits.ensures _ c.statement.new.body c.lead_here.new.self tt c.in_ok-statement.ensures
+    over-ran (rows_of c.args.at) c.args.line c.args.test _ c.args.body.now c.jump_from.new.self c.in_ok-waits.ensures _ c.statement.new.body
+    c.lead_here.new.self tt c.in_ok-statement.ensures
     c.lead_here.ensures.allotted c.lead_here.ensures.led
 
 pub rounds-returns-in_err-objects : goal.rounds-returns-in_err-objects
@@ -201,27 +219,40 @@ rounds-returns-in_err-objects t c = run-memory (exits c.from_residual.result Mem
 
 pub rounds-returns-in_err-emit : goal.rounds-returns-in_err-emit
 rounds-returns-in_err-emit t c =
-    turn-refused (rows_of c.args.at) (inside_view c.args.at) c.args.line c.here-top.result c.args.body.now c.enter_loop.new.self _ c.in_ok-objects.ensures _ c.emit.new.self _ _ _ (c.in_err-emit.ensures (rows_of c.args.at)) (exits c.from_residual-in_err-emit.result _ c.from_residual-in_err-emit.ensures.1)
+    turn-refused (rows_of c.args.at) (inside_view c.args.at) c.args.line c.here-top.result c.args.body.now c.enter_loop.new.self _ c.in_ok-objects.ensures _
+    c.emit.new.self _ _ _ (c.in_err-emit.ensures (rows_of c.args.at)) (exits c.from_residual-in_err-emit.result _ c.from_residual-in_err-emit.ensures.1)
 
 pub rounds-returns-in_err-tested : goal.rounds-returns-in_err-tested
 rounds-returns-in_err-tested t c =
-    test-refused (rows_of c.args.at) (inside_view c.args.at) c.args.line c.here-top.result c.args.body.now c.enter_loop.new.self _ c.in_ok-objects.ensures c.emit.new.self tt (c.in_ok-emit.ensures (rows_of c.args.at)) (option_map (value_view (types_of c.args.at)) (option_copied c.args.condition)) (lowers (inside_view c.args.at) (stmt_view (types_of c.args.at) c.args.a.now)) (option_map (value_view (types_of c.args.at)) (option_copied c.args.step)) c.test.new.out _ _ _ c.in_err-tested.ensures (exits c.from_residual-in_err-tested.result _ c.from_residual-in_err-tested.ensures.1)
+    test-refused (rows_of c.args.at) (inside_view c.args.at) c.args.line c.here-top.result c.args.body.now c.enter_loop.new.self _ c.in_ok-objects.ensures
+    c.emit.new.self tt (c.in_ok-emit.ensures (rows_of c.args.at)) _ _ _ c.test.new.out _ _ _ c.in_err-tested.ensures
+    (exits c.from_residual-in_err-tested.result _ c.from_residual-in_err-tested.ensures.1)
 
 pub rounds-returns-in_err-leaving : goal.rounds-returns-in_err-leaving
 rounds-returns-in_err-leaving t c =
-    run-memory (exits c.from_residual-in_err-leaving.result _ c.from_residual-in_err-leaving.ensures.1 ∙ ap Err (unless-memory c.args.line c.in_ok-tested.tested c.test.new.out c.leave_unless.new.self _ c.in_err-leaving.ensures))
+    run-memory (exits c.from_residual-in_err-leaving.result _ c.from_residual-in_err-leaving.ensures.1 ∙ ap Err
+    (unless-memory c.args.line c.in_ok-tested.tested c.test.new.out c.leave_unless.new.self _ c.in_err-leaving.ensures))
 
 pub rounds-returns-in_err-statement : goal.rounds-returns-in_err-statement
 rounds-returns-in_err-statement t c =
-    body-refused (rows_of c.args.at) (inside_view c.args.at) c.args.line c.here-top.result c.args.body.now c.enter_loop.new.self _ c.in_ok-objects.ensures c.emit.new.self tt (c.in_ok-emit.ensures (rows_of c.args.at)) (option_map (value_view (types_of c.args.at)) (option_copied c.args.condition)) (lowers (inside_view c.args.at) (stmt_view (types_of c.args.at) c.args.a.now)) (option_map (value_view (types_of c.args.at)) (option_copied c.args.step)) c.test.new.out c.leave_unless.new.self _ _ c.in_ok-tested.ensures c.in_ok-leaving.ensures c.statement.new.body _ _ _ c.in_err-statement.ensures (exits c.from_residual-in_err-statement.result _ c.from_residual-in_err-statement.ensures.1)
+    body-refused (rows_of c.args.at) (inside_view c.args.at) c.args.line c.here-top.result c.args.body.now c.enter_loop.new.self _ c.in_ok-objects.ensures
+    c.emit.new.self tt (c.in_ok-emit.ensures (rows_of c.args.at)) _ _ _ c.test.new.out c.leave_unless.new.self _ _ c.in_ok-tested.ensures
+    c.in_ok-leaving.ensures c.statement.new.body _ _ _ c.in_err-statement.ensures
+    (exits c.from_residual-in_err-statement.result _ c.from_residual-in_err-statement.ensures.1)
 
 pub rounds-returns-in_err-compute : goal.rounds-returns-in_err-compute
 rounds-returns-in_err-compute t c =
-    step-refused (rows_of c.args.at) (inside_view c.args.at) c.args.line c.here-top.result c.args.body.now c.enter_loop.new.self _ c.in_ok-objects.ensures c.emit.new.self tt (c.in_ok-emit.ensures (rows_of c.args.at)) (option_map (value_view (types_of c.args.at)) (option_copied c.args.condition)) (lowers (inside_view c.args.at) (stmt_view (types_of c.args.at) c.args.a.now)) (option_map (value_view (types_of c.args.at)) (option_copied c.args.step)) c.test.new.out c.leave_unless.new.self _ _ c.in_ok-tested.ensures c.in_ok-leaving.ensures c.statement.new.body tt c.in_ok-statement.ensures c.compute.new.out _ _ _ c.in_err-compute.ensures (exits c.from_residual-in_err-compute.result _ c.from_residual-in_err-compute.ensures.1)
+    step-refused (rows_of c.args.at) (inside_view c.args.at) c.args.line c.here-top.result c.args.body.now c.enter_loop.new.self _ c.in_ok-objects.ensures
+    c.emit.new.self tt (c.in_ok-emit.ensures (rows_of c.args.at)) _ _ _ c.test.new.out c.leave_unless.new.self _ _ c.in_ok-tested.ensures
+    c.in_ok-leaving.ensures c.statement.new.body tt c.in_ok-statement.ensures c.compute.new.out _ _ _ c.in_err-compute.ensures
+    (exits c.from_residual-in_err-compute.result _ c.from_residual-in_err-compute.ensures.1)
 
 pub rounds-returns-in_err-emit-2 : goal.rounds-returns-in_err-emit-2
 rounds-returns-in_err-emit-2 t c =
-    jump-refused (rows_of c.args.at) (inside_view c.args.at) c.args.line c.here-top.result c.args.body.now c.enter_loop.new.self _ c.in_ok-objects.ensures c.emit.new.self tt (c.in_ok-emit.ensures (rows_of c.args.at)) (option_map (value_view (types_of c.args.at)) (option_copied c.args.condition)) (lowers (inside_view c.args.at) (stmt_view (types_of c.args.at) c.args.a.now)) (option_map (value_view (types_of c.args.at)) (option_copied c.args.step)) c.test.new.out c.leave_unless.new.self _ _ c.in_ok-tested.ensures c.in_ok-leaving.ensures c.statement.new.body tt c.in_ok-statement.ensures c.compute.new.out tt c.in_ok-compute.ensures c.emit-2.new.self _ _ _ (c.in_err-emit-2.ensures (rows_of c.args.at)) (exits c.from_residual-in_err-emit-2.result _ c.from_residual-in_err-emit-2.ensures.1)
+    jump-refused (rows_of c.args.at) (inside_view c.args.at) c.args.line c.here-top.result c.args.body.now c.enter_loop.new.self _ c.in_ok-objects.ensures
+    c.emit.new.self tt (c.in_ok-emit.ensures (rows_of c.args.at)) _ _ _ c.test.new.out c.leave_unless.new.self _ _ c.in_ok-tested.ensures
+    c.in_ok-leaving.ensures c.statement.new.body tt c.in_ok-statement.ensures c.compute.new.out tt c.in_ok-compute.ensures c.emit-2.new.self _ _ _
+    (c.in_err-emit-2.ensures (rows_of c.args.at)) (exits c.from_residual-in_err-emit-2.result _ c.from_residual-in_err-emit-2.ensures.1)
 
 pub rounds-returns-in_err-leave_loop : goal.rounds-returns-in_err-leave_loop
 rounds-returns-in_err-leave_loop t c =
@@ -229,7 +260,10 @@ rounds-returns-in_err-leave_loop t c =
 
 pub rounds-returns : goal.rounds-returns
 rounds-returns t c =
-    rounds-done (rows_of c.args.at) (inside_view c.args.at) c.args.line c.here-top.result c.args.body.now c.enter_loop.new.self _ c.in_ok-objects.ensures c.emit.new.self tt (c.in_ok-emit.ensures (rows_of c.args.at)) (option_map (value_view (types_of c.args.at)) (option_copied c.args.condition)) (lowers (inside_view c.args.at) (stmt_view (types_of c.args.at) c.args.a.now)) (option_map (value_view (types_of c.args.at)) (option_copied c.args.step)) c.test.new.out c.leave_unless.new.self _ _ c.in_ok-tested.ensures c.in_ok-leaving.ensures c.statement.new.body tt c.in_ok-statement.ensures c.compute.new.out tt c.in_ok-compute.ensures c.here-top.ensures c.here-continue_at.result c.here-continue_at.ensures c.emit-2.new.self c.lead_if.new.self tt c.leave_loop.new.self tt
+    rounds-done (rows_of c.args.at) (inside_view c.args.at) c.args.line c.here-top.result c.args.body.now c.enter_loop.new.self _ c.in_ok-objects.ensures
+    c.emit.new.self tt (c.in_ok-emit.ensures (rows_of c.args.at)) _ _ _ c.test.new.out c.leave_unless.new.self _ _ c.in_ok-tested.ensures
+    c.in_ok-leaving.ensures c.statement.new.body tt c.in_ok-statement.ensures c.compute.new.out tt c.in_ok-compute.ensures c.here-top.ensures
+    c.here-continue_at.result c.here-continue_at.ensures c.emit-2.new.self c.lead_if.new.self tt c.leave_loop.new.self tt
     (c.in_ok-emit-2.ensures (rows_of c.args.at)) c.lead_if.ensures c.in_ok-leave_loop.ensures
 
 pub rounds_of_do-returns-in_err-objects : goal.rounds_of_do-returns-in_err-objects
@@ -237,19 +271,27 @@ rounds_of_do-returns-in_err-objects t c = run-memory (exits c.from_residual.resu
 
 pub rounds_of_do-returns-in_err-emit : goal.rounds_of_do-returns-in_err-emit
 rounds_of_do-returns-in_err-emit t c =
-    turn-refused (rows_of c.args.at) (inside_view c.args.at) c.args.line c.here-top.result c.args.body.now c.enter_loop.new.self _ c.in_ok-objects.ensures _ c.emit.new.self _ _ _ (c.in_err-emit.ensures (rows_of c.args.at)) (exits c.from_residual-in_err-emit.result _ c.from_residual-in_err-emit.ensures.1)
+    turn-refused (rows_of c.args.at) (inside_view c.args.at) c.args.line c.here-top.result c.args.body.now c.enter_loop.new.self _ c.in_ok-objects.ensures _
+    c.emit.new.self _ _ _ (c.in_err-emit.ensures (rows_of c.args.at)) (exits c.from_residual-in_err-emit.result _ c.from_residual-in_err-emit.ensures.1)
 
 pub rounds_of_do-returns-in_err-statement : goal.rounds_of_do-returns-in_err-statement
 rounds_of_do-returns-in_err-statement t c =
-    do-body-refused (rows_of c.args.at) (inside_view c.args.at) c.args.line c.here-top.result c.args.body.now c.enter_loop.new.self _ c.in_ok-objects.ensures c.emit.new.self tt (c.in_ok-emit.ensures (rows_of c.args.at)) (lowers (inside_view c.args.at) (stmt_view (types_of c.args.at) c.args.a.now)) (value_view (types_of c.args.at) c.args.condition.now) c.statement.new.body _ _ _ c.in_err-statement.ensures (exits c.from_residual-in_err-statement.result _ c.from_residual-in_err-statement.ensures.1)
+    do-body-refused (rows_of c.args.at) (inside_view c.args.at) c.args.line c.here-top.result c.args.body.now c.enter_loop.new.self _ c.in_ok-objects.ensures
+    c.emit.new.self tt (c.in_ok-emit.ensures (rows_of c.args.at)) _ _ c.statement.new.body _ _ _ c.in_err-statement.ensures
+    (exits c.from_residual-in_err-statement.result _ c.from_residual-in_err-statement.ensures.1)
 
 pub rounds_of_do-returns-in_err-source : goal.rounds_of_do-returns-in_err-source
 rounds_of_do-returns-in_err-source t c =
-    do-test-refused (rows_of c.args.at) (inside_view c.args.at) c.args.line c.here-top.result c.args.body.now c.enter_loop.new.self _ c.in_ok-objects.ensures c.emit.new.self tt (c.in_ok-emit.ensures (rows_of c.args.at)) (lowers (inside_view c.args.at) (stmt_view (types_of c.args.at) c.args.a.now)) (value_view (types_of c.args.at) c.args.condition.now) c.statement.new.body tt c.in_ok-statement.ensures c.value.new.out _ _ _ c.in_err-source.ensures (exits c.from_residual-in_err-source.result _ c.from_residual-in_err-source.ensures.1)
+    do-test-refused (rows_of c.args.at) (inside_view c.args.at) c.args.line c.here-top.result c.args.body.now c.enter_loop.new.self _ c.in_ok-objects.ensures
+    c.emit.new.self tt (c.in_ok-emit.ensures (rows_of c.args.at)) _ _ c.statement.new.body tt c.in_ok-statement.ensures c.value.new.out _ _ _
+    c.in_err-source.ensures (exits c.from_residual-in_err-source.result _ c.from_residual-in_err-source.ensures.1)
 
 pub rounds_of_do-returns-in_err-emit-2 : goal.rounds_of_do-returns-in_err-emit-2
 rounds_of_do-returns-in_err-emit-2 t c =
-    do-jump-refused (rows_of c.args.at) (inside_view c.args.at) c.args.line c.here-top.result c.args.body.now c.enter_loop.new.self _ c.in_ok-objects.ensures c.emit.new.self tt (c.in_ok-emit.ensures (rows_of c.args.at)) (lowers (inside_view c.args.at) (stmt_view (types_of c.args.at) c.args.a.now)) (value_view (types_of c.args.at) c.args.condition.now) c.statement.new.body tt c.in_ok-statement.ensures c.value.new.out _ c.in_ok-source.ensures c.emit-2.new.self _ _ _ (c.in_err-emit-2.ensures (rows_of c.args.at)) (exits c.from_residual-in_err-emit-2.result _ c.from_residual-in_err-emit-2.ensures.1)
+    do-jump-refused (rows_of c.args.at) (inside_view c.args.at) c.args.line c.here-top.result c.args.body.now c.enter_loop.new.self _ c.in_ok-objects.ensures
+    c.emit.new.self tt (c.in_ok-emit.ensures (rows_of c.args.at)) _ _ c.statement.new.body tt c.in_ok-statement.ensures c.value.new.out _
+    c.in_ok-source.ensures c.emit-2.new.self _ _ _ (c.in_err-emit-2.ensures (rows_of c.args.at))
+    (exits c.from_residual-in_err-emit-2.result _ c.from_residual-in_err-emit-2.ensures.1)
 
 pub rounds_of_do-returns-in_err-leave_loop : goal.rounds_of_do-returns-in_err-leave_loop
 rounds_of_do-returns-in_err-leave_loop t c =
@@ -257,32 +299,42 @@ rounds_of_do-returns-in_err-leave_loop t c =
 
 pub rounds_of_do-returns : goal.rounds_of_do-returns
 rounds_of_do-returns t c =
-    do-done (rows_of c.args.at) (inside_view c.args.at) c.args.line c.here-top.result c.args.body.now c.enter_loop.new.self _ c.in_ok-objects.ensures c.emit.new.self tt (c.in_ok-emit.ensures (rows_of c.args.at)) (lowers (inside_view c.args.at) (stmt_view (types_of c.args.at) c.args.a.now)) (value_view (types_of c.args.at) c.args.condition.now) c.statement.new.body tt c.in_ok-statement.ensures c.value.new.out _ c.in_ok-source.ensures c.here-top.ensures c.here-continue_at.result c.here-continue_at.ensures c.emit-2.new.self tt c.leave_loop.new.self tt
+    do-done (rows_of c.args.at) (inside_view c.args.at) c.args.line c.here-top.result c.args.body.now c.enter_loop.new.self _ c.in_ok-objects.ensures
+    c.emit.new.self tt (c.in_ok-emit.ensures (rows_of c.args.at)) _ _ c.statement.new.body tt c.in_ok-statement.ensures c.value.new.out _
+    c.in_ok-source.ensures c.here-top.ensures c.here-continue_at.result c.here-continue_at.ensures c.emit-2.new.self tt c.leave_loop.new.self tt
     (c.in_ok-emit-2.ensures (rows_of c.args.at)) c.in_ok-leave_loop.ensures
 
 pub rounds_with-returns-in_err-begin_locals : goal.rounds_with-returns-in_err-begin_locals
 rounds_with-returns-in_err-begin_locals t c =
-    block-begin-refused {view = nothing} (inside_view c.args.at) (numbers_of (map (local_item_view (types_of c.args.at)) c.args.locals.now)) c.args.line _ c.args.body.now c.begin_locals.new.body _
+    block-begin-refused {view = nothing} (inside_view c.args.at) (numbers_of (map (local_item_view (types_of c.args.at)) c.args.locals.now)) c.args.line _
+    c.args.body.now c.begin_locals.new.body _
     (exits c.from_residual.result _ c.from_residual.ensures.1) c.in_err-begin_locals.ensures
 
 pub rounds_with-returns-in_err-initialize_all : goal.rounds_with-returns-in_err-initialize_all
 rounds_with-returns-in_err-initialize_all t c =
-    inside-refused (rows_of c.args.at) (inside_view c.args.at) (numbers_of (map (local_item_view (types_of c.args.at)) c.args.locals.now)) c.args.line _ c.args.body.now c.begin_locals.new.body _ refl tt c.in_ok-begin_locals.ensures c.begin_locals.new.body _ _ _
-    (emit-stop {next_view = nothing} _ refl refl refl c.in_err-initialize_all.ensures) (exits c.from_residual-in_err-initialize_all.result _ c.from_residual-in_err-initialize_all.ensures.1)
+    inside-refused (rows_of c.args.at) (inside_view c.args.at) (numbers_of (map (local_item_view (types_of c.args.at)) c.args.locals.now)) c.args.line _
+    c.args.body.now c.begin_locals.new.body _ refl tt c.in_ok-begin_locals.ensures c.begin_locals.new.body _ _ _
+    (emit-stop {next_view = nothing} _ refl refl refl c.in_err-initialize_all.ensures)
+    (exits c.from_residual-in_err-initialize_all.result _ c.from_residual-in_err-initialize_all.ensures.1)
 
 pub rounds_with-returns-in_err-rounds : goal.rounds_with-returns-in_err-rounds
 rounds_with-returns-in_err-rounds t c =
-    inside-refused (rows_of c.args.at) (inside_view c.args.at) (numbers_of (map (local_item_view (types_of c.args.at)) c.args.locals.now)) c.args.line _ c.args.body.now c.begin_locals.new.body _ refl tt c.in_ok-begin_locals.ensures c.rounds.new.body _ _ _
+    inside-refused (rows_of c.args.at) (inside_view c.args.at) (numbers_of (map (local_item_view (types_of c.args.at)) c.args.locals.now)) c.args.line _
+    c.args.body.now c.begin_locals.new.body _ refl tt c.in_ok-begin_locals.ensures c.rounds.new.body _ _ _
     (emit-step {next_view = nothing} _ refl c.in_ok-initialize_all.ensures
-    (run-same (λ j. looped (inside_view c.args.at) c.args.line (option_map (value_view (types_of c.args.at)) (sym c.given.ensures j)) (lowers (inside_view c.args.at) (stmt_view (types_of c.args.at) c.args.a.now))
+    (run-same (λ j. looped (inside_view c.args.at) c.args.line (option_map (value_view (types_of c.args.at)) (sym c.given.ensures j))
+    (lowers (inside_view c.args.at) (stmt_view (types_of c.args.at) c.args.a.now))
     (option_map (value_view (types_of c.args.at)) (sym c.given-2.ensures j)))
     c.in_err-rounds.ensures)) (exits c.from_residual-in_err-rounds.result _ c.from_residual-in_err-rounds.ensures.1)
 
 pub rounds_with-returns : goal.rounds_with-returns
 rounds_with-returns t c =
-    block-closed (rows_of c.args.at) (inside_view c.args.at) (numbers_of (map (local_item_view (types_of c.args.at)) c.args.locals.now)) c.args.line _ c.args.body.now c.begin_locals.new.body c.len-stay.result (c.len-stay.ensures ∙ c.args.body.now.objects.ok.0) tt c.in_ok-begin_locals.ensures c.rounds.new.body _ tt _
+    block-closed (rows_of c.args.at) (inside_view c.args.at) (numbers_of (map (local_item_view (types_of c.args.at)) c.args.locals.now)) c.args.line _
+    c.args.body.now c.begin_locals.new.body c.len-stay.result (c.len-stay.ensures ∙ c.args.body.now.objects.ok.0) tt c.in_ok-begin_locals.ensures
+    c.rounds.new.body _ tt _
     (emit-step {next_view = nothing} _ refl c.in_ok-initialize_all.ensures
-    (run-same (λ j. looped (inside_view c.args.at) c.args.line (option_map (value_view (types_of c.args.at)) (sym c.given.ensures j)) (lowers (inside_view c.args.at) (stmt_view (types_of c.args.at) c.args.a.now))
+    (run-same (λ j. looped (inside_view c.args.at) c.args.line (option_map (value_view (types_of c.args.at)) (sym c.given.ensures j))
+    (lowers (inside_view c.args.at) (stmt_view (types_of c.args.at) c.args.a.now))
     (option_map (value_view (types_of c.args.at)) (sym c.given-2.ensures j)))
     c.in_ok-rounds.ensures)) c.close_down_to.ensures
 
