@@ -12,7 +12,8 @@ use Rattle.c_typed.specs.declared.statement.BlockItem.{BlockItem-F}
 use Rattle.c_typed.specs.declared.statement.BlockItem.TheVariants as bi
 use Rattle.c_typed.specs.declared.statement.Stmt as code_stmt
 use Rattle.c_typed.specs.Statements.{Stmt, Items, no_items}
-use Rattle.c_typed.specs.StatementViews.{BlockView, all_items, local_item_view, block_item_view, block_item_from, stmt_node_from, block_from, stmt_from, stmt_view}
+use Rattle.c_typed.specs.StatementViews.{BlockView, all_items, local_item_view, block_item_view, block_item_from, stmt_node_from, block_from, stmt_from}
+use Rattle.c_typed.specs.StatementViews.{stmt_view}
 use Rattle.lower.specs.declared.body.Body.{Body}
 use Rattle.lower.specs.declared.emitter.Emitter.{Emitter}
 use Rattle.lower.specs.declared.refusal.LowerRefusal.{LowerRefusal}

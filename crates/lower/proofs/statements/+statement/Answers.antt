@@ -10,12 +10,15 @@ use Rattle.lower.specs.declared.refusal.LowerRefusal.TheVariants.{Memory}
 use Rattle.lower.specs.Emits.{nothing, rows_of, types_of, inside_view}
 use Rattle.lower.proofs.Steps.{exits}
 use Rattle.lower.proofs.RunSteps.{run-step, run-stop, run-given, run-memory, run-same, emit-step, emit-stop, emitted}
-use Rattle.lower.proofs.StatementRows.{block-row, empty-row, value-row, if-row, while-row, do-row, for-row, continue-row, break-row, return-row, first-row, locals-row}
+use Rattle.lower.proofs.StatementRows.{block-row, empty-row, value-row, if-row, while-row, do-row, for-row, continue-row, break-row, return-row, first-row}
+use Rattle.lower.proofs.StatementRows.{locals-row}
 use Rattle.source_meaning.specs.Statements.{locals_of, numbers_of}
 use Rattle.lower.specs.Statements.{lowers, lowers_items, in_block, looped}
 use Rattle.lower.proofs.Blocks.{block-begin-refused}
-use Rattle.lower.proofs.StatementSteps.{items-row, items-end, statement-alone, declaration-alone, over-ran, over-refused, first-way-refused, second-way-refused, both-ran, block-closed, inside-refused}
-use Rattle.lower.proofs.LoopSteps.{turn-refused, test-refused, unless-memory, body-refused, step-refused, jump-refused, rounds-done, do-body-refused, do-test-refused, do-jump-refused, do-done}
+use Rattle.lower.proofs.StatementSteps.{items-row, items-end, statement-alone, declaration-alone, over-ran, over-refused, first-way-refused}
+use Rattle.lower.proofs.StatementSteps.{second-way-refused, both-ran, block-closed, inside-refused}
+use Rattle.lower.proofs.LoopSteps.{turn-refused, test-refused, unless-memory, body-refused, step-refused, jump-refused, rounds-done, do-body-refused}
+use Rattle.lower.proofs.LoopSteps.{do-test-refused, do-jump-refused, do-done}
 use Rattle.lower.proofs.statements.+statement.Goals as goal
 
 -- ---- statements
