@@ -14,6 +14,7 @@ mod Growing
 mod Jumping
 mod Landing
 mod LocalSteps
+mod LoopSteps
 mod Looping
 mod LoweredFunctions
 mod LoweredPrograms
@@ -28,6 +29,7 @@ mod RunSteps
 mod SameTypes
 mod StartingObjects
 mod StatementRows
+mod StatementSteps
 mod Steps
 mod Targets
 mod ValueLists
