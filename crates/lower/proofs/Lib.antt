@@ -5,7 +5,6 @@ mod Blocks
 mod Closing
 mod Deciding
 mod Emitted
-mod EmittedParts
 mod EntityNumbers
 mod EntityValues
 mod FunctionParts
@@ -19,6 +18,7 @@ mod Looping
 mod LoweredFunctions
 mod LoweredPrograms
 mod OpenLoops
+mod Operands
 mod Parameters
 mod Parts
 mod PlacesFound

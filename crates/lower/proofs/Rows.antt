@@ -16,8 +16,11 @@ use Rattle.c_typed.specs.Typed as tree
 use Rattle.c_typed.specs.Typed.{place, PlaceNode, value, ValueNode, type_of}
 use Rattle.c_typed.specs.Views.{value_view, place_view, value_node_view, place_node_view, qualified_from, values_from}
 use Rattle.c_typed.proofs.ViewLaws as view
-use Rattle.lower.specs.Emitting.{Making, ◌>>=◌, ◌>>◌, pure, free_behind}
-use Rattle.lower.specs.Expressions.{Inside, Located as Location, number_of, number_of_text, constant_in, zero_for, function_in, object_in, local_in, moves_pointer, computed, minus_of, complement_of, negated, converted, truth_of, pointers_subtracted, compared, decides, chosen, fetches, assigned, called, called_through, byte_put, byte_got, left_by, value_of, address_of, values_in, dropped_in, location_of, updated, repointed}
+use Rattle.lower.specs.Emitting.{Making, ◌>>=◌, ◌>>◌, pure, free_behind, home_of}
+use Rattle.lower.specs.declared.inside.Where.{Where as CodeWhere}
+use Rattle.lower.specs.declared.inside.Where.TheVariants as code_where
+use Rattle.lower.specs.Emits.{where_view}
+use Rattle.lower.specs.Expressions.{Inside, Located as Location, held, stored, where_is, locates, number_of, number_of_text, constant_in, zero_for, function_in, object_in, local_in, moves_pointer, computed, minus_of, complement_of, negated, converted, truth_of, pointers_subtracted, compared, decides, chosen, fetches, assigned, called, called_through, byte_put, byte_got, left_by, value_of, address_of, values_in, dropped_in, location_of, updated, repointed}
 
 pub type-of : (types : TypeRef → CType) (x : v.Value) → type_of (value_view types x) ≡ types x.ty
 type-of types x = ap type_of (view.view_value types x)
@@ -61,20 +64,31 @@ module _ (i : Inside) (types : TypeRef → CType) where
   unfolding address_of
   pointed-row x e k is = by-place x (pn.Pointed e) (tree.pointed (value_view types e)) k is (view.view_pointed types e)
 
-  pub element-row : (x : p.Place) (at : ℕ) (first : Test) (a b a' b' : v.Value) (k free : ℕ) → x.node ≡ pn.Element at first a b
-      → a' ≡ a → b' ≡ b → free ≡ free_behind (types a'.ty) k
+  pub element-row : (x : p.Place) (at : ℕ) (first : Test) (a b a' b' a'' : v.Value) (k free : ℕ) → x.node ≡ pn.Element at first a b
+      → a' ≡ a → b' ≡ b → a'' ≡ a → free ≡ free_behind (types a''.ty) k
       → Addressed x k ≡ (Lowered a k >>= (λ y. Lowered b free >>= (λ z. moves_pointer x.line at false first (types a'.ty) (types b'.ty) y z)))
   unfolding address_of
-  element-row x at first a b a' b' k free is is-a is-b is-free =
+  element-row x at first a b a' b' a'' k free is is-a is-b is-a'' is-free =
       by-place x (pn.Element at first a b) (tree.element at first (value_view types a) (value_view types b)) k is (view.view_element types at first a b)
-      ∙ (λ j. Lowered a k >>= (λ y. Lowered b (free_behind (ta j) k) >>= (λ z. moves_pointer x.line at false first (ta j) (tb j) y z)))
+      ∙ (λ j. Lowered a k >>= (λ y. Lowered b (free_behind (tc j) k) >>= (λ z. moves_pointer x.line at false first (ta j) (tb j) y z)))
       ∙ ap (λ z. Lowered a k >>= (λ y. Lowered b z >>= (λ z. moves_pointer x.line at false first (types a'.ty) (types b'.ty) y z))) (sym is-free)
     where
       ta : type_of (value_view types a) ≡ types a'.ty
       ta = type-of types a ∙ ap (λ z. types z.ty) (sym is-a)
 
+      tc : type_of (value_view types a) ≡ types a''.ty
+      tc = type-of types a ∙ ap (λ z. types z.ty) (sym is-a'')
+
       tb : type_of (value_view types b) ≡ types b'.ty
       tb = type-of types b ∙ ap (λ z. types z.ty) (sym is-b)
+
+  pub register-row : (x : p.Place) (n : ℕ) (w : CodeWhere) (k : ℕ) → where_view w ≡ where_is i (place_view types x) → w ≡ code_where.Register n
+      → Located x k ≡ (home_of n >>= (λ home. pure (held home)))
+  register-row x n w k is at = ap (λ z. locates z (Addressed x k)) (sym is ∙ ap where_view at)
+
+  pub memory-row : (x : p.Place) (is_volatile : Test) (line : ℕ) (w : CodeWhere) (k : ℕ) → where_view w ≡ where_is i (place_view types x)
+      → w ≡ code_where.Memory is_volatile line → Located x k ≡ (Addressed x k >>= (λ pointer. pure (stored is_volatile line pointer)))
+  memory-row x is_volatile line w k is at = ap (λ z. locates z (Addressed x k)) (sym is ∙ ap where_view at)
 
   -- ---- values
 
@@ -174,21 +188,26 @@ module _ (i : Inside) (types : TypeRef → CType) where
       tc : type_of (value_view types a) ≡ types a''.ty
       tc = type-of types a ∙ ap (λ z. types z.ty) (sym is-a'')
 
-  pub conjunction-row : (x a b : v.Value) (k : ℕ) → x.node ≡ vn.Conjunction a b → Lowered x k ≡ (Lowered a k >>= decides false x.line k (Lowered b k))
+  pub conjunction-row : (x a b b' : v.Value) (k : ℕ) → x.node ≡ vn.Conjunction a b → b' ≡ b
+      → Lowered x k ≡ (Lowered a k >>= decides false x.line k (Lowered b' k))
   unfolding value_of
-  conjunction-row x a b k is =
+  conjunction-row x a b b' k is is-b =
       by-node x (vn.Conjunction a b) (tree.conjunction (value_view types a) (value_view types b)) k is (view.view_conjunction types a b)
+      ∙ ap (λ z. Lowered a k >>= decides false x.line k (Lowered z k)) (sym is-b)
 
-  pub disjunction-row : (x a b : v.Value) (k : ℕ) → x.node ≡ vn.Disjunction a b → Lowered x k ≡ (Lowered a k >>= decides true x.line k (Lowered b k))
+  pub disjunction-row : (x a b b' : v.Value) (k : ℕ) → x.node ≡ vn.Disjunction a b → b' ≡ b
+      → Lowered x k ≡ (Lowered a k >>= decides true x.line k (Lowered b' k))
   unfolding value_of
-  disjunction-row x a b k is =
+  disjunction-row x a b b' k is is-b =
       by-node x (vn.Disjunction a b) (tree.disjunction (value_view types a) (value_view types b)) k is (view.view_disjunction types a b)
+      ∙ ap (λ z. Lowered a k >>= decides true x.line k (Lowered z k)) (sym is-b)
 
-  pub choice-row : (x e a b : v.Value) (k : ℕ) → x.node ≡ vn.Choice e a b
-      → Lowered x k ≡ (Lowered e k >>= chosen (types x.ty) x.line (Lowered a k) (Lowered b k))
+  pub choice-row : (x e a b a' b' : v.Value) (k : ℕ) → x.node ≡ vn.Choice e a b → a' ≡ a → b' ≡ b
+      → Lowered x k ≡ (Lowered e k >>= chosen (types x.ty) x.line (Lowered a' k) (Lowered b' k))
   unfolding value_of
-  choice-row x e a b k is =
+  choice-row x e a b a' b' k is is-a is-b =
       by-node x (vn.Choice e a b) (tree.choice (value_view types e) (value_view types a) (value_view types b)) k is (view.view_choice types e a b)
+      ∙ (λ j. Lowered e k >>= chosen (types x.ty) x.line (Lowered (sym is-a j) k) (Lowered (sym is-b j) k))
 
   pub sequence-row : (x : v.Value) (es : List v.Value) (e : v.Value) (k : ℕ) → x.node ≡ vn.Sequence es e
       → Lowered x k ≡ (dropped_in i (values_from (map (value_view types) es)) k >>= (λ _. Lowered e k))
@@ -202,18 +221,20 @@ module _ (i : Inside) (types : TypeRef → CType) where
   assignment-row x l e k is =
       by-node x (vn.Assignment l e) (tree.assignment (place_view types l) (value_view types e)) k is (view.view_assignment types l e)
 
-  pub update-row : (x : v.Value) (c : IntegerChange) (l : p.Place) (e : v.Value) (k : ℕ) → x.node ≡ vn.Update c l e
-      → Lowered x k ≡ (Located l k >>= (λ y. updated i c.is_after c.first c.op c.at c.ty (types x.ty) x.line k y (value_view types e)))
+  pub update-row : (x : v.Value) (c : IntegerChange) (l : p.Place) (e e' : v.Value) (k : ℕ) → x.node ≡ vn.Update c l e → e' ≡ e
+      → Lowered x k ≡ (Located l k >>= (λ y. updated i c.is_after c.first c.op c.at c.ty (types x.ty) x.line k y (value_view types e')))
   unfolding value_of
-  update-row x c l e k is =
+  update-row x c l e e' k is same =
       by-node x (vn.Update c l e) (tree.update c.is_after (place_view types l) c.first c.op c.at c.ty (value_view types e)) k is (view.view_update types c l e)
+      ∙ ap (λ z. Located l k >>= (λ y. updated i c.is_after c.first c.op c.at c.ty (types x.ty) x.line k y (value_view types z))) (sym same)
 
-  pub move-row : (x : v.Value) (c : PointerChange) (l : p.Place) (e : v.Value) (k : ℕ) → x.node ≡ vn.Move c l e
-      → Lowered x k ≡ (Located l k >>= (λ y. repointed i c.is_after c.is_less c.at (types x.ty) (types e.ty) x.line k y (value_view types e)))
+  pub move-row : (x : v.Value) (c : PointerChange) (l : p.Place) (e e' : v.Value) (k : ℕ) → x.node ≡ vn.Move c l e → e' ≡ e
+      → Lowered x k ≡ (Located l k >>= (λ y. repointed i c.is_after c.is_less c.at (types x.ty) (types e'.ty) x.line k y (value_view types e')))
   unfolding value_of
-  move-row x c l e k is =
+  move-row x c l e e' k is same =
       by-node x (vn.Move c l e) (tree.move c.is_after (place_view types l) c.is_less c.at (value_view types e)) k is (view.view_move types c l e)
       ∙ ap (λ t. Located l k >>= (λ y. repointed i c.is_after c.is_less c.at (types x.ty) t x.line k y (value_view types e))) (type-of types e)
+      ∙ ap (λ z. Located l k >>= (λ y. repointed i c.is_after c.is_less c.at (types x.ty) (types z.ty) x.line k y (value_view types z))) (sym same)
 
   pub conversion-row : (x : v.Value) (first : ℕ) (e f : v.Value) (from to : Ty) (k : ℕ) → x.node ≡ vn.Conversion first e
       → f ≡ e → from ≡ ty_of (types f.ty) → to ≡ ty_of (types x.ty) → Lowered x k ≡ (Lowered e k >>= converted first from to)

@@ -1,6 +1,8 @@
 -- Values of a list are lowered one after another: what a loop has emitted comes before what the rest emits.
-use Rattle.std.proofs.Common.{◌≡◌, ℕ, ◌+◌, ◌<◌, ◌≤◌, List, [], ◌∷◌, ◌++◌, map, drop, length, Result, Ok, Err, refl, sym, ◌∙◌, ap, subst}
-use Rattle.std.specs.Prelude.{⊤}
+use Rattle.std.proofs.Common.{◌≡◌, ℕ, ◌+◌, ◌<◌, ◌≤◌, arith, Bool, false, List, [], ◌∷◌, ◌++◌, map, drop, length, Result, Ok, Err, refl, sym, ◌∙◌, ap, subst}
+use Rattle.std.specs.Prelude.{⊤, IsTrue, ◌↔◌}
+use Rattle.std.proofs.lemmas.Bool.{false≢true}
+use Rattle.mid_code.proofs.RegistersLemmas.{length-registers_list}
 use Rattle.std.proofs.Math.ListN.{get_or}
 use Rattle.std.proofs.lemmas.List.{append_assoc, drop_more, drop_all}
 use Rattle.c_types.specs.declared.type_ref.TypeRef.{TypeRef}
@@ -16,7 +18,7 @@ use Rattle.lower.specs.declared.refusal.LowerRefusal.TheVariants.{TooManyRegiste
 use Rattle.lower.specs.Emitting.{Making, ◌>>=◌, pure, free_behind}
 use Rattle.lower.specs.Expressions.{Inside, value_of, values_in, dropped_in}
 use Rattle.lower.specs.Emits.{Emits, itself, nothing}
-use Rattle.lower.proofs.EmittedParts.{then-emits, is-refused, is-given, in-other-words}
+use Rattle.lower.proofs.Steps.{step, stop, given, same-making}
 use Rattle.lower.proofs.Rows.{type-of}
 
 abbrev pub Numbers : Type 0
@@ -45,15 +47,13 @@ append-none (x ∷ xs) = ap (λ z. x ∷ z) (append-none xs)
 -- a refusal tells nothing of what is given
 relabelled : {X Y A : Type 0} (first : X → A) (other : Y → A) (rows : List Row) (old new : Emitter) (m : Making A) (e : LowerRefusal)
     → Emits first rows old new (Err e) m → Emits other rows old new (Err e) m
-unfolding Emits
-relabelled first other rows old new m (TooManyRegisters line) h = h
-relabelled first other rows old new m (TooLong line) h = h
-relabelled first other rows old new m Memory h = h
+relabelled first other rows old new m (TooManyRegisters line) h = record { is = h.is }
+relabelled first other rows old new m (TooLong line) h = record { is = h.is }
+relabelled first other rows old new m Memory h = record { is = h.is }
 
 whole : (rows : List Row) (old new : Emitter) (m : Making (List ℕ)) (xs : List ℕ) (r : Registers) → xs ≡ registers_list r
     → Emits listed rows old new (Ok xs) m → Emits registers_list rows old new (Ok r) m
-unfolding Emits
-whole rows old new m xs r is h = subst (λ z. Emits listed rows old new (Ok z) m) is h
+whole rows old new m xs r is h = record { is = (subst (λ z. Emits listed rows old new (Ok z) m) is h).is }
 
 module _ (i : Inside) (types : TypeRef → CType) (rows : List Row) where
   abbrev pub Values : List v.Value → ℕ → Making (List ℕ)
@@ -95,8 +95,8 @@ module _ (i : Inside) (types : TypeRef → CType) (rows : List Row) where
 
   consed : (old new : Emitter) (x : ℕ) (r : Numbers) (m : Making (List ℕ)) → Emits listed rows old new r m
       → Emits listed rows old new (before (x ∷ []) r) (m >>= (λ xs. pure (x ∷ xs)))
-  consed old new x (Ok xs) m h = then-emits _ _ _ _ _ _ _ _ _ _ _ refl h (is-given _ _ _ _)
-  consed old new x (Err e) m h = is-refused _ _ _ _ _ _ _ _ _ _ refl refl h
+  consed old new x (Ok xs) m h = step _ refl h given
+  consed old new x (Err e) m h = stop _ refl refl h
 
   pub values-begin : (es items : List v.Value) (k : ℕ) (s : Emitter) (found : List ℕ) → items ≡ es → found ≡ [] → Continues es k s items 0 k s found
   values-begin es items k s found same none new r h =
@@ -112,8 +112,8 @@ module _ (i : Inside) (types : TypeRef → CType) (rows : List Row) where
   values-next es k initial now mid items index free free' found found' x y z number below at same same' is more before-it emitted new r h =
       subst (λ w. Emits listed rows initial new w (Values es k)) (before-both found (number ∷ []) r ∙ ap (λ w. before w r) (sym more))
       (before-it new (before (number ∷ []) r)
-      (in-other-words _ _ _ _ _ _ _ (ap (λ w. Values w free) (drop_more items index x below ∙ ap (λ w. w ∷ drop (index + 1) items) (sym at)))
-      (then-emits _ _ _ _ _ _ _ _ _ _ _ (first-value x (drop (index + 1) items) free free' (is ∙ ap (λ w. free_behind (types w.ty) free) same'))
+      (same-making (ap (λ w. Values w free) (drop_more items index x below ∙ ap (λ w. w ∷ drop (index + 1) items) (sym at)))
+      (step _ (first-value x (drop (index + 1) items) free free' (is ∙ ap (λ w. free_behind (types w.ty) free) same'))
       (subst (λ w. Emits itself rows now mid (Ok number) (value_of i (value_view types w) free)) same emitted)
       (consed mid new number r (Values (drop (index + 1) items) free') h))))
 
@@ -125,8 +125,8 @@ module _ (i : Inside) (types : TypeRef → CType) (rows : List Row) where
   values-refused es k initial now new items index free found x y e r below at same out before-it emitted =
       subst (λ w. Emits registers_list rows initial new w (Values es k)) (sym out)
       (relabelled _ _ _ _ _ _ e (before-it new (Err e)
-      (in-other-words _ _ _ _ _ _ _ (ap (λ w. Values w free) (drop_more items index x below ∙ ap (λ w. w ∷ drop (index + 1) items) (sym at)))
-      (is-refused _ _ _ _ _ _ _ _ _ _ (first-value x (drop (index + 1) items) free (free_behind (types x.ty) free) refl) refl
+      (same-making (ap (λ w. Values w free) (drop_more items index x below ∙ ap (λ w. w ∷ drop (index + 1) items) (sym at)))
+      (stop _ (first-value x (drop (index + 1) items) free (free_behind (types x.ty) free) refl) refl
       (subst (λ w. Emits itself rows now new (Err e) (value_of i (value_view types w) free)) same emitted)))))
 
   pub values-end : (es : List v.Value) (k : ℕ) (initial now : Emitter) (items : List v.Value) (index free : ℕ) (found : Registers) → length items ≤ index
@@ -134,7 +134,7 @@ module _ (i : Inside) (types : TypeRef → CType) (rows : List Row) where
       → Emits registers_list rows initial now (Ok found) (Values es k)
   values-end es k initial now items index free found past before-it =
       whole _ _ _ _ (registers_list found ++ []) found (append-none (registers_list found))
-      (before-it now (Ok []) (in-other-words _ _ _ _ _ _ _ (ap (λ w. Values w free) (drop_all index items past) ∙ no-value free) (is-given _ _ _ _)))
+      (before-it now (Ok []) (same-making (ap (λ w. Values w free) (drop_all index items past) ∙ no-value free) (given)))
 
   -- ---- the loop of dropped values
 
@@ -151,7 +151,7 @@ module _ (i : Inside) (types : TypeRef → CType) (rows : List Row) where
       → Emits itself rows now mid (Ok number) (value_of i (value_view types y) k)
       → Drops initial items k (index + 1) mid
   drops-next initial now mid items k index x y number below at same before-it emitted new r h =
-      before-it new r (then-emits _ _ _ _ _ _ _ _ _ _ _ (dropping initial now items k index x below at)
+      before-it new r (step _ (dropping initial now items k index x below at)
       (subst (λ w. Emits itself rows now mid (Ok number) (value_of i (value_view types w) k)) same emitted) h)
 
   pub drops-refused : (es : List v.Value) (initial now new : Emitter) (items : List v.Value) (k index : ℕ) (x y : v.Value) (e : LowerRefusal)
@@ -161,11 +161,19 @@ module _ (i : Inside) (types : TypeRef → CType) (rows : List Row) where
       → Emits nothing rows initial new r (Dropped es k)
   drops-refused es initial now new items k index x y e r all below at same out before-it emitted =
       subst (λ w. Emits nothing rows initial new r (Dropped w k)) all
-      (before-it new r (is-refused _ _ _ _ _ _ _ _ _ _ (dropping initial now items k index x below at) out
+      (before-it new r (stop _ (dropping initial now items k index x below at) out
       (subst (λ w. Emits itself rows now new (Err e) (value_of i (value_view types w) k)) same emitted)))
 
   pub drops-end : (es : List v.Value) (initial now : Emitter) (items : List v.Value) (k index : ℕ) → items ≡ es → length items ≤ index
       → Drops initial items k index now → Emits nothing rows initial now (Ok tt) (Dropped es k)
   drops-end es initial now items k index all past before-it =
       subst (λ w. Emits nothing rows initial now (Ok tt) (Dropped w k)) all
-      (before-it now (Ok tt) (in-other-words _ _ _ _ _ _ _ (ap (λ w. Dropped w k) (drop_all index items past) ∙ none-dropped k) (is-given _ _ _ _)))
+      (before-it now (Ok tt) (same-making (ap (λ w. Dropped w k) (drop_all index items past) ∙ none-dropped k) (given)))
+
+-- ---- room for one argument more
+
+pub has-room : (r : Registers) (b : Bool) → (IsTrue b ↔ (length (registers_list r) ≡ 16)) → b ≡ false → length (registers_list r) < 16
+has-room r b full is = below (length (registers_list r)) r.count (length-registers_list r) r.within (λ e. false≢true (sym is ∙ full.1 e))
+  where
+    below : (n count : ℕ) → n ≡ count → count ≤ 16 → (n ≡ 16 → ⊥) → n < 16
+    below n count e within not = omega arith
