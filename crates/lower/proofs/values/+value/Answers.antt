@@ -1,12 +1,18 @@
-use Rattle.std.proofs.Common.{Err, refl, sym, ◌∙◌, ap}
+use Rattle.std.proofs.Common.{Err, refl, sym, ◌∙◌, ap, rules, ◌≡◌, ℕ, List, map, ◌+◌, ◌-◌, ◌*◌, ◌<◌, ◌≤◌, length, ◌/◌, ◌%◌, suc, if◌then◌else◌, Bool, true, false, nat_eq, nat_lt, [], ◌∷◌, ◌++◌, slice_index_or, slice_set, bit_and, bit_or, Fits, w8, w32, w64, Bor, MutBor}
 use Rattle.mid_code.specs.Registers.{registers_list}
-use Rattle.lower.specs.Emits.{rows_of, types_of, inside_view}
+use Rattle.lower.specs.Emits.{rows_of, types_of, inside_view, Emits, itself, nothing, located_view, change_view}
 use Rattle.lower.proofs.Steps.{exits, memory, step, stop, given, same-making}
 use Rattle.lower.proofs.Deciding.{operand-refused, test-refused, decided, first-operand-refused, first-join-refused, second-operand-refused, second-join-refused, chose}
 use Rattle.lower.proofs.Operands.{value-at, address-at, location-at}
 use Rattle.lower.proofs.Rows.{local-row, static-row, text-row, pointed-row, element-row, register-row, memory-row, constant-row, null-row, function-row, read-row, first_element-row, address-row, minus-row, complement-row, negation-row, arithmetic-row, sum-row, difference-row, comparison-row, conjunction-row, disjunction-row, choice-row, sequence-row, assignment-row, update-row, move-row, conversion-row, to_bool-row, requalified-row, discarded-row, call-row, call_through-row, putchar-row, getchar-row, exit-row}
 use Rattle.lower.proofs.ValueLists.{has-room, values-begin, values-next, values-refused, values-end, drops-begin, drops-next, drops-refused, drops-end}
+use Rattle.c_typed.specs.Views.{value_view, place_view, values_from}
+use Rattle.lower.specs.Expressions.{value_of, address_of, location_of, values_in, dropped_in, decides, chosen, updated, repointed, moved_by}
+use Rattle.c_types.specs.Types.{ty_of}
+use Rattle.lower.proofs.Changing.{free-after, free-before, widened-at, value-at, changed-at}
+use Rattle.lower.proofs.values.+value.Goals.{update-then-by+in_ok-behind+in_ok-free, update-else-by+in_ok-free-2}
 use Rattle.lower.proofs.values.+value.Goals as goal
+use Rattle.mid_code.specs.declared.mid.Mid.TheVariants as mid_of
 
 pub choose-returns-in_err-waits : goal.choose-returns-in_err-waits
 choose-returns-in_err-waits t c = memory (exits c.from_residual.result _ c.from_residual.ensures.1 ∙ ap Err c.in_err-waits.ensures)
@@ -111,13 +117,15 @@ arguments-returns t c =
     c.loop-e.e-index c.loop-e.free c.loop-e.found c.loop-e-test.false c.loop-e.invariant
 
 pub change_pointer-returns-in_err-change : goal.change_pointer-returns-in_err-change
-change_pointer-returns-in_err-change t c = ?
+change_pointer-returns-in_err-change t c = stop _ refl (exits c.from_residual.result _ c.from_residual.ensures.1) c.in_err-change.ensures
 
 pub change_pointer-returns-in_err-index : goal.change_pointer-returns-in_err-index
-change_pointer-returns-in_err-index t c = ?
+change_pointer-returns-in_err-index t c =
+    step _ refl c.in_ok-change.ensures
+    (stop _ refl (exits c.from_residual-in_err-index.result _ c.from_residual-in_err-index.ensures.1) c.in_err-index.ensures)
 
 pub change_pointer-returns : goal.change_pointer-returns
-change_pointer-returns t c = ?
+change_pointer-returns t c = step _ refl c.in_ok-change.ensures (step _ refl c.in_ok-index.ensures c.end_move.ensures)
 
 pub choose-value-requires-2 : goal.choose-value-requires-2
 choose-value-requires-2 t c = ?
@@ -157,25 +165,56 @@ location-returns-in_ok-pointer-in-Memory t c =
     c.in_ok-pointer-in-Memory.ensures given
 
 pub update-returns-in_err-begun : goal.update-returns-in_err-begun
-update-returns-in_err-begun t c = ?
+update-returns-in_err-begun t c = stop _ refl (exits c.from_residual.result _ c.from_residual.ensures.1) c.in_err-begun.ensures
 
 pub update-returns-in_err-change : goal.update-returns-in_err-change
-update-returns-in_err-change t c = ?
+update-returns-in_err-change t c =
+    step _ refl c.in_ok-begun.ensures (stop _ refl (exits c.from_residual-in_err-change.result _ c.from_residual-in_err-change.ensures.1)
+    (widened-at c.args.by.first c.ty.result (ty_of (types_of c.args.at c.args.of)) c.args.by.ty (change_view c.in_ok-begun.begun) c.ty.ensures
+    (c.in_err-change.ensures _)))
 
 pub update-returns-in_err-behind : goal.update-returns-in_err-behind
-update-returns-in_err-behind t c = ?
+update-returns-in_err-behind t c =
+    memory (exits c.from_residual-in_err-behind.result _ c.from_residual-in_err-behind.ensures.1 ∙ ap Err c.in_err-behind.ensures.memory)
 
 pub update-returns-in_err-free : goal.update-returns-in_err-free
-update-returns-in_err-free t c = ?
+update-returns-in_err-free t c =
+    memory (exits c.from_residual-in_err-free.result _ c.from_residual-in_err-free.ensures.1 ∙ ap Err c.in_err-free.ensures.memory)
 
 pub update-returns-in_err-free-2 : goal.update-returns-in_err-free-2
-update-returns-in_err-free-2 t c = ?
+update-returns-in_err-free-2 t c =
+    memory (exits c.from_residual-in_err-free-2.result _ c.from_residual-in_err-free-2.ensures.1 ∙ ap Err c.in_err-free-2.ensures.memory)
 
 pub update-returns-in_err-right : goal.update-returns-in_err-right
-update-returns-in_err-right t c = ?
+update-returns-in_err-right t c =
+    step _ refl c.in_ok-begun.ensures (step _ refl
+    (widened-at c.args.by.first c.ty.result (ty_of (types_of c.args.at c.args.of)) c.args.by.ty (change_view c.in_ok-begun.begun) c.ty.ensures
+    (c.in_ok-change.ensures _))
+    (stop _ refl (exits c.from_residual-in_err-right.result _ c.from_residual-in_err-right.ensures.1)
+    (value-at (inside_view c.args.at) (value_view (types_of c.args.at) c.args.e.now) c.if-by.free _ free-is c.in_err-right.ensures)))
+  where
+    free-is : c.if-by.free ≡ (if c.args.by.is_after then suc (suc c.args.k) else suc c.args.k)
+    free-is =
+        elim c.if-by.branch [
+          | update-then-by+in_ok-behind+in_ok-free w ↦ free-after _ _ _ _ _ w.if-by.true w.in_ok-behind.ensures.next w.in_ok-free.ensures.next w.free-is
+          | update-else-by+in_ok-free-2 w ↦ free-before _ _ _ _ w.if-by.false w.in_ok-free-2.ensures.next w.free-is
+        ]
 
 pub update-returns : goal.update-returns
-update-returns t c = ?
+update-returns t c =
+    step _ refl c.in_ok-begun.ensures (step _ refl
+    (widened-at c.args.by.first c.ty.result (ty_of (types_of c.args.at c.args.of)) c.args.by.ty (change_view c.in_ok-begun.begun) c.ty.ensures
+    (c.in_ok-change.ensures _))
+    (step _ refl (value-at (inside_view c.args.at) (value_view (types_of c.args.at) c.args.e.now) c.if-by.free _ free-is c.in_ok-right.ensures)
+    (changed-at c.args.by.is_after c.args.by.op c.args.by.ty c.ty-2.result (ty_of (types_of c.args.at c.args.of)) c.args.by.at c.args.line
+    (located_view c.args.located) (change_view c.in_ok-change.change) c.in_ok-right.right c.ty-2.ensures (c.end_update.ensures _))))
+  where
+    free-is : c.if-by.free ≡ (if c.args.by.is_after then suc (suc c.args.k) else suc c.args.k)
+    free-is =
+        elim c.if-by.branch [
+          | update-then-by+in_ok-behind+in_ok-free w ↦ free-after _ _ _ _ _ w.if-by.true w.in_ok-behind.ensures.next w.in_ok-free.ensures.next w.free-is
+          | update-else-by+in_ok-free-2 w ↦ free-before _ _ _ _ w.if-by.false w.in_ok-free-2.ensures.next w.free-is
+        ]
 
 pub value-returns-in_err-function_number-in-Function : goal.value-returns-in_err-function_number-in-Function
 value-returns-in_err-function_number-in-Function t c =
@@ -559,3 +598,9 @@ address-returns-in_ok-right-in-Element t c =
 
 pub arguments-push-requires : goal.arguments-push-requires
 arguments-push-requires t c = has-room c.loop-e.found _ c.is_full.ensures c.if-is_full.false
+
+pub address-returns-in-Element : goal.address-returns-in-Element
+address-returns-in-Element t c = ?
+
+pub value-returns-in-Sum : goal.value-returns-in-Sum
+value-returns-in-Sum t c = ?
