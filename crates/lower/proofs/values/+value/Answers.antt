@@ -127,9 +127,6 @@ change_pointer-returns-in_err-index t c =
 pub change_pointer-returns : goal.change_pointer-returns
 change_pointer-returns t c = step _ refl c.in_ok-change.ensures (step _ refl c.in_ok-index.ensures c.end_move.ensures)
 
-pub choose-value-requires-2 : goal.choose-value-requires-2
-choose-value-requires-2 t c = ?
-
 pub drop_all-loop-e-init : goal.drop_all-loop-e-init
 drop_all-loop-e-init t c = drops-begin (inside_view c.args.at) (types_of c.args.at) (rows_of c.args.at) c.as_slice-e-items.result.now c.args.k _
 
