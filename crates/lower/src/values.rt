@@ -3,7 +3,7 @@ ghost use Rattle.mid_code.specs.declared.mid.Mid.TheVariants as mid_of;
 ghost use Rattle.mid_code.specs.Registers.{registers_list};
 ghost use Rattle.c_types.specs.Types.{ty_of};
 ghost use Rattle.c_typed.specs.Views.{value_view, place_view, values_from};
-ghost use Rattle.lower.specs.Expressions.{value_of, address_of, location_of, values_in, dropped_in, decides, chosen, updated, repointed};
+ghost use Rattle.lower.specs.Expressions.{value_of, address_of, location_of, values_in, dropped_in, decides, updated, repointed};
 ghost use Rattle.lower.specs.Emits.{Emits, itself, nothing, rows_of, types_of, inside_view, located_view};
 
 use crate::emitter::{Emitter, Located};
@@ -85,9 +85,17 @@ pub(crate) fn value(
             let first = self::value(at, out, a.get(), k)?;
             decide(at, out, true, line, k, b.get(), first)
         }
+        // C11 6.5.15.
         ValueNode::Choice(e, a, b) => {
             let test = self::value(at, out, e.get(), k)?;
-            choose(at, out, value.ty, line, k, test, a.get(), b.get())
+            let waits = out.jump_from(line, false, test)?;
+            let first = self::value(at, out, a.get(), k)?;
+            let target = out.join_first(at, value.ty, line, first)?;
+            let over = out.turn(line, waits)?;
+            let second = self::value(at, out, b.get(), k)?;
+            out.join_second(at, value.ty, line, target, second)?;
+            out.lead_here(over);
+            Ok(target)
         }
         ValueNode::Sequence(dropped, last) => {
             drop_all(at, out, dropped, k)?;
@@ -158,34 +166,6 @@ fn decide(
     let target = out.test_second(is_or, line, k, second)?;
     out.lead_here(waits);
     out.set(target, u64::from(is_or), line)
-}
-
-/// `?:` behind the test (C11 6.5.15).
-#[cycle(value)]
-fn choose(
-    at: Inside,
-    out: &mut Emitter,
-    of: TypeRef,
-    line: u32,
-    k: usize,
-    test: u16,
-    a: &Value,
-    b: &Value,
-) -> Result<u16, LowerRefusal>
-    ensures {
-        Emits itself (rows_of at.entry) out.old out.new result
-            (chosen (types_of at.entry of) line (value_of (inside_view at.entry) (value_view (types_of at.entry) a.now) k)
-            (value_of (inside_view at.entry) (value_view (types_of at.entry) b.now) k) test)
-    }
-{
-    let waits = out.jump_from(line, false, test)?;
-    let first = value(at, out, a, k)?;
-    let target = out.join_first(at, of, line, first)?;
-    let over = out.turn(line, waits)?;
-    let second = value(at, out, b, k)?;
-    out.join_second(at, of, line, target, second)?;
-    out.lead_here(over);
-    Ok(target)
 }
 
 /// `l op= e`, `++l`, `l++` on integers, behind the place.

@@ -9,41 +9,10 @@ use Rattle.lower.proofs.ValueLists.{has-room, values-begin, values-next, values-
 use Rattle.c_typed.specs.Views.{value_view, place_view, values_from}
 use Rattle.lower.specs.Expressions.{value_of, address_of, location_of, values_in, dropped_in, decides, chosen, updated, repointed, moved_by}
 use Rattle.c_types.specs.Types.{ty_of}
-use Rattle.lower.proofs.Changing.{free-after, free-before, widened-at, value-at, changed-at}
+use Rattle.lower.proofs.Changing.{free-after, free-before, widened-at, value-at as value-from, changed-at}
 use Rattle.lower.proofs.values.+value.Goals.{update-then-by+in_ok-behind+in_ok-free, update-else-by+in_ok-free-2}
 use Rattle.lower.proofs.values.+value.Goals as goal
 use Rattle.mid_code.specs.declared.mid.Mid.TheVariants as mid_of
-
-pub choose-returns-in_err-waits : goal.choose-returns-in_err-waits
-choose-returns-in_err-waits t c = memory (exits c.from_residual.result _ c.from_residual.ensures.1 ∙ ap Err c.in_err-waits.ensures)
-
-pub choose-returns-in_err-first : goal.choose-returns-in_err-first
-choose-returns-in_err-first t c =
-    first-operand-refused _ _ _ _ _ _ _ _ _ _ _ _ c.in_ok-waits.ensures c.in_err-first.ensures
-    (exits c.from_residual-in_err-first.result _ c.from_residual-in_err-first.ensures.1)
-
-pub choose-returns-in_err-target : goal.choose-returns-in_err-target
-choose-returns-in_err-target t c =
-    first-join-refused _ _ _ _ _ _ _ _ _ _ _ _ _ _ c.in_ok-waits.ensures c.in_ok-first.ensures c.in_err-target.ensures
-    (exits c.from_residual-in_err-target.result _ c.from_residual-in_err-target.ensures.1)
-
-pub choose-returns-in_err-over : goal.choose-returns-in_err-over
-choose-returns-in_err-over t c = memory (exits c.from_residual-in_err-over.result _ c.from_residual-in_err-over.ensures.1 ∙ ap Err c.in_err-over.ensures)
-
-pub choose-returns-in_err-second : goal.choose-returns-in_err-second
-choose-returns-in_err-second t c =
-    second-operand-refused _ _ _ _ _ _ _ _ _ _ _ _ _ _ _ _ _ _ c.in_ok-waits.ensures c.in_ok-first.ensures c.in_ok-target.ensures c.in_ok-over.ensures
-    c.in_err-second.ensures (exits c.from_residual-in_err-second.result _ c.from_residual-in_err-second.ensures.1)
-
-pub choose-returns-in_err-join_second : goal.choose-returns-in_err-join_second
-choose-returns-in_err-join_second t c =
-    second-join-refused _ _ _ _ _ _ _ _ _ _ _ _ _ _ _ _ _ _ _ _ c.in_ok-waits.ensures c.in_ok-first.ensures c.in_ok-target.ensures c.in_ok-over.ensures
-    c.in_ok-second.ensures c.in_err-join_second.ensures (exits c.from_residual-in_err-join_second.result _ c.from_residual-in_err-join_second.ensures.1)
-
-pub choose-returns : goal.choose-returns
-choose-returns t c =
-    chose _ _ _ _ _ _ _ _ _ _ _ _ _ _ _ _ _ _ _ _ c.in_ok-waits.ensures c.in_ok-first.ensures c.in_ok-target.ensures c.in_ok-over.ensures
-    c.in_ok-second.ensures c.in_ok-join_second.ensures c.lead_here.ensures.allotted c.lead_here.ensures.led
 
 pub decide-returns-in_err-waits : goal.decide-returns-in_err-waits
 decide-returns-in_err-waits t c = memory (exits c.from_residual.result _ c.from_residual.ensures.1 ∙ ap Err c.in_err-waits.ensures)
@@ -188,7 +157,7 @@ update-returns-in_err-right t c =
     (widened-at c.args.by.first c.ty.result (ty_of (types_of c.args.at c.args.of)) c.args.by.ty (change_view c.in_ok-begun.begun) c.ty.ensures
     (c.in_ok-change.ensures _))
     (stop _ refl (exits c.from_residual-in_err-right.result _ c.from_residual-in_err-right.ensures.1)
-    (value-at (inside_view c.args.at) (value_view (types_of c.args.at) c.args.e.now) c.if-by.free _ free-is c.in_err-right.ensures)))
+    (value-from (inside_view c.args.at) (value_view (types_of c.args.at) c.args.e.now) c.if-by.free _ free-is c.in_err-right.ensures)))
   where
     free-is : c.if-by.free ≡ (if c.args.by.is_after then suc (suc c.args.k) else suc c.args.k)
     free-is =
@@ -202,7 +171,7 @@ update-returns t c =
     step _ refl c.in_ok-begun.ensures (step _ refl
     (widened-at c.args.by.first c.ty.result (ty_of (types_of c.args.at c.args.of)) c.args.by.ty (change_view c.in_ok-begun.begun) c.ty.ensures
     (c.in_ok-change.ensures _))
-    (step _ refl (value-at (inside_view c.args.at) (value_view (types_of c.args.at) c.args.e.now) c.if-by.free _ free-is c.in_ok-right.ensures)
+    (step _ refl (value-from (inside_view c.args.at) (value_view (types_of c.args.at) c.args.e.now) c.if-by.free _ free-is c.in_ok-right.ensures)
     (changed-at c.args.by.is_after c.args.by.op c.args.by.ty c.ty-2.result (ty_of (types_of c.args.at c.args.of)) c.args.by.at c.args.line
     (located_view c.args.located) (change_view c.in_ok-change.change) c.in_ok-right.right c.ty-2.ensures (c.end_update.ensures _))))
   where
@@ -468,12 +437,6 @@ value-returns-in_ok-first-in-Disjunction t c =
     c.get-in-Disjunction-2.ensures) (value-at (inside_view c.args.at) (types_of c.args.at) _ c.get-in-Disjunction.ensures
     c.in_ok-first-in-Disjunction.ensures) c.decide-in-Disjunction.ensures
 
-pub value-returns-in_ok-test-in-Choice : goal.value-returns-in_ok-test-in-Choice
-value-returns-in_ok-test-in-Choice t c =
-    step _ (choice-row (inside_view c.args.at) (types_of c.args.at) c.args.value.now _ _ _ _ _ c.args.k c.in-Choice.is c.get-in-Choice-2.ensures
-    c.get-in-Choice-3.ensures) (value-at (inside_view c.args.at) (types_of c.args.at) _ c.get-in-Choice.ensures c.in_ok-test-in-Choice.ensures)
-    c.choose.ensures
-
 pub value-returns-in_ok-drop_all-in-Sequence : goal.value-returns-in_ok-drop_all-in-Sequence
 value-returns-in_ok-drop_all-in-Sequence t c =
     step _ (sequence-row (inside_view c.args.at) (types_of c.args.at) c.args.value.now _ _ c.args.k c.in-Sequence.is) c.in_ok-drop_all-in-Sequence.ensures
@@ -596,8 +559,44 @@ address-returns-in_ok-right-in-Element t c =
 pub arguments-push-requires : goal.arguments-push-requires
 arguments-push-requires t c = has-room c.loop-e.found _ c.is_full.ensures c.if-is_full.false
 
-pub address-returns-in-Element : goal.address-returns-in-Element
-address-returns-in-Element t c = ?
+pub value-returns-in_err-waits-in-Choice : goal.value-returns-in_err-waits-in-Choice
+value-returns-in_err-waits-in-Choice t c = memory (exits c.from_residual-in_err-waits-in-Choice.result _ c.from_residual-in_err-waits-in-Choice.ensures.1 ∙ ap Err c.in_err-waits-in-Choice.ensures)
 
-pub value-returns-in-Sum : goal.value-returns-in-Sum
-value-returns-in-Sum t c = ?
+pub value-returns-in_err-over-in-Choice : goal.value-returns-in_err-over-in-Choice
+value-returns-in_err-over-in-Choice t c = memory (exits c.from_residual-in_err-over-in-Choice.result _ c.from_residual-in_err-over-in-Choice.ensures.1 ∙ ap Err c.in_err-over-in-Choice.ensures)
+
+pub value-returns-in_err-first-in-Choice : goal.value-returns-in_err-first-in-Choice
+value-returns-in_err-first-in-Choice t c =
+    step _ (choice-row (inside_view c.args.at) (types_of c.args.at) c.args.value.now _ _ _ _ _ c.args.k c.in-Choice.is refl refl)
+    (value-at (inside_view c.args.at) (types_of c.args.at) _ c.get-in-Choice.ensures c.in_ok-test-in-Choice.ensures)
+    (first-operand-refused _ _ _ _ _ _ _ _ _ _ _ _ c.in_ok-waits-in-Choice.ensures (value-at (inside_view c.args.at) (types_of c.args.at) _ c.get-in-Choice-2.ensures c.in_err-first-in-Choice.ensures)
+    (exits c.from_residual-in_err-first-in-Choice.result _ c.from_residual-in_err-first-in-Choice.ensures.1))
+
+pub value-returns-in_err-target-in-Choice : goal.value-returns-in_err-target-in-Choice
+value-returns-in_err-target-in-Choice t c =
+    step _ (choice-row (inside_view c.args.at) (types_of c.args.at) c.args.value.now _ _ _ _ _ c.args.k c.in-Choice.is refl refl)
+    (value-at (inside_view c.args.at) (types_of c.args.at) _ c.get-in-Choice.ensures c.in_ok-test-in-Choice.ensures)
+    (first-join-refused _ _ _ _ _ _ _ _ _ _ _ _ _ _ c.in_ok-waits-in-Choice.ensures (value-at (inside_view c.args.at) (types_of c.args.at) _ c.get-in-Choice-2.ensures c.in_ok-first-in-Choice.ensures) c.in_err-target-in-Choice.ensures
+    (exits c.from_residual-in_err-target-in-Choice.result _ c.from_residual-in_err-target-in-Choice.ensures.1))
+
+pub value-returns-in_err-second-in-Choice : goal.value-returns-in_err-second-in-Choice
+value-returns-in_err-second-in-Choice t c =
+    step _ (choice-row (inside_view c.args.at) (types_of c.args.at) c.args.value.now _ _ _ _ _ c.args.k c.in-Choice.is refl refl)
+    (value-at (inside_view c.args.at) (types_of c.args.at) _ c.get-in-Choice.ensures c.in_ok-test-in-Choice.ensures)
+    (second-operand-refused _ _ _ _ _ _ _ _ _ _ _ _ _ _ _ _ _ _ c.in_ok-waits-in-Choice.ensures (value-at (inside_view c.args.at) (types_of c.args.at) _ c.get-in-Choice-2.ensures c.in_ok-first-in-Choice.ensures) c.in_ok-target-in-Choice.ensures c.in_ok-over-in-Choice.ensures
+    (value-at (inside_view c.args.at) (types_of c.args.at) _ c.get-in-Choice-3.ensures c.in_err-second-in-Choice.ensures) (exits c.from_residual-in_err-second-in-Choice.result _ c.from_residual-in_err-second-in-Choice.ensures.1))
+
+pub value-returns-in_err-join_second-in-Choice : goal.value-returns-in_err-join_second-in-Choice
+value-returns-in_err-join_second-in-Choice t c =
+    step _ (choice-row (inside_view c.args.at) (types_of c.args.at) c.args.value.now _ _ _ _ _ c.args.k c.in-Choice.is refl refl)
+    (value-at (inside_view c.args.at) (types_of c.args.at) _ c.get-in-Choice.ensures c.in_ok-test-in-Choice.ensures)
+    (second-join-refused _ _ _ _ _ _ _ _ _ _ _ _ _ _ _ _ _ _ _ _ c.in_ok-waits-in-Choice.ensures (value-at (inside_view c.args.at) (types_of c.args.at) _ c.get-in-Choice-2.ensures c.in_ok-first-in-Choice.ensures) c.in_ok-target-in-Choice.ensures c.in_ok-over-in-Choice.ensures
+    (value-at (inside_view c.args.at) (types_of c.args.at) _ c.get-in-Choice-3.ensures c.in_ok-second-in-Choice.ensures) c.in_err-join_second-in-Choice.ensures (exits c.from_residual-in_err-join_second-in-Choice.result _ c.from_residual-in_err-join_second-in-Choice.ensures.1))
+
+pub value-returns-in_ok-join_second-in-Choice : goal.value-returns-in_ok-join_second-in-Choice
+value-returns-in_ok-join_second-in-Choice t c =
+    step _ (choice-row (inside_view c.args.at) (types_of c.args.at) c.args.value.now _ _ _ _ _ c.args.k c.in-Choice.is refl refl)
+    (value-at (inside_view c.args.at) (types_of c.args.at) _ c.get-in-Choice.ensures c.in_ok-test-in-Choice.ensures)
+    (chose _ _ _ _ _ _ _ _ _ _ _ _ _ _ _ _ _ _ _ _ c.in_ok-waits-in-Choice.ensures (value-at (inside_view c.args.at) (types_of c.args.at) _ c.get-in-Choice-2.ensures c.in_ok-first-in-Choice.ensures) c.in_ok-target-in-Choice.ensures c.in_ok-over-in-Choice.ensures (value-at (inside_view c.args.at) (types_of c.args.at) _ c.get-in-Choice-3.ensures c.in_ok-second-in-Choice.ensures)
+    c.in_ok-join_second-in-Choice.ensures c.lead_here.ensures.allotted c.lead_here.ensures.led)
+
