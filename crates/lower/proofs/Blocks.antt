@@ -68,9 +68,9 @@ pub within-is : (old new : Body) (opened begun : List ℕ) (leads : List Leads) 
     → new.outside.items ≡ old.outside.items → reverse opened ≡ begun → around_of new leads ≡ inside begun (around_of old leads)
 within-is old new opened begun leads objects outside is =
     let loop : reverse new.objects.items ≡ begun ++ reverse old.objects.items =
-        ap reverse objects ∙ reverse-append old.objects.items opened ∙ ap (λ (l : List ℕ). l ++ reverse old.objects.items) is in
+    ap reverse objects ∙ reverse-append old.objects.items opened ∙ ap (λ (l : List ℕ). l ++ reverse old.objects.items) is in
     let function : reverse new.objects.items ++ reverse new.outside.items ≡ begun ++ (reverse old.objects.items ++ reverse old.outside.items) =
-        (λ i. loop i ++ reverse (outside i)) ∙ append_assoc begun (reverse old.objects.items) (reverse old.outside.items) in
+    (λ i. loop i ++ reverse (outside i)) ∙ append_assoc begun (reverse old.objects.items) (reverse old.outside.items) in
     λ i. record {
       break_at = (leads_of leads).break_at;
       continue_at = (leads_of leads).continue_at;
@@ -90,15 +90,19 @@ module _ (rows : List Row) (begun : ℕ → List ℕ) (s p q r : Body) where
   live-made : (c : Made (Unit {0})) (d : Result (Made (Unit {0})) ℕ) → MoreObjects begun s p → Grows c.code (code_of s.out.code) (code_of p.out.code)
       → MakesAround rows d tt p q → r.out ≡ q.out → r.objects.items ≡ take (length s.objects.items) q.objects.items → r.outside.items ≡ q.outside.items
       → MakesAround rows (around_code (lived begun) (behind c.code d)) tt s r
-  live-made c (Ok d) more grows h out objects outside =
-      (h.0, h.1 ∙ ap (λ (o : Emitter). allotted_view rows o.allotted) (sym out), record {
+  live-made c (Ok d) more grows h out objects outside = (
+    h.0,
+    h.1 ∙ ap (λ (o : Emitter). allotted_view rows o.allotted) (sym out),
+    record {
       objects = truncated s.objects.items p.objects.items q.objects.items r.objects.items more.opened more.objects h.2.objects objects;
       outside = outside ∙ h.2.outside ∙ more.outside;
-      }, (λ leads. ap (λ (o : Emitter). code_of o.code leads) out
-      ∙ lived-code begun c.code d.code (around_of s leads) (around_of p leads) more.opened (code_of s.out.code leads) (code_of p.out.code leads)
-      (code_of q.out.code leads) (more.began leads) (λ start is. within-is s p more.opened (begun start) leads more.objects more.outside is)
-      (λ a. grows leads a) (h.3 leads)),
-      subst (λ (o : Emitter). AllStand rows o.allotted.types.keys) (sym out) h.4)
+    },
+    (λ leads. ap (λ (o : Emitter). code_of o.code leads) out
+        ∙ lived-code begun c.code d.code (around_of s leads) (around_of p leads) more.opened (code_of s.out.code leads) (code_of p.out.code leads)
+        (code_of q.out.code leads) (more.began leads) (λ start is. within-is s p more.opened (begun start) leads more.objects more.outside is)
+        (λ a. grows leads a) (h.3 leads)),
+    subst (λ (o : Emitter). AllStand rows o.allotted.types.keys) (sym out) h.4,
+  )
   live-made c (Err line) more grows h out objects outside = h
 
   live-given : (c : Result (Made (Unit {0})) ℕ) (n : Making (Unit {0})) → Opens rows begun c tt s p
@@ -114,17 +118,21 @@ module _ (rows : List Row) (begun : ℕ → List ℕ) (s p q r : Body) where
       → MakesAround rows (around_code (ended line begun) (around_code (lived begun) (behind c.code d))) tt s r
   end-made line c (Ok d) more grows h down =
       let closing : Closing line (reverse more.opened) q.out r.out =
-          subst (λ (o : List ℕ). Closing line (reverse o) q.out r.out)
-          (dropped s.objects.items p.objects.items q.objects.items more.opened more.objects h.2.objects) down.closing in
-      (h.0, h.1 ∙ ap (allotted_view rows) (sym closing.allotted), record {
-      objects = truncated s.objects.items p.objects.items q.objects.items r.objects.items more.opened more.objects h.2.objects down.objects;
-      outside = down.outside ∙ h.2.outside ∙ more.outside;
-      }, (λ leads.
-      ended-code begun line c.code d.code (around_of s leads) (around_of p leads) more.opened (code_of s.out.code leads) (code_of p.out.code leads)
-      (code_of q.out.code leads) (code_of r.out.code leads) (more.began leads)
-      (λ start is. within-is s p more.opened (begun start) leads more.objects more.outside is)
-      (λ a. grows leads a) (h.3 leads) (closing.grown leads)),
-      subst (λ a. AllStand rows a.types.keys) (sym closing.allotted) h.4)
+      subst (λ (o : List ℕ). Closing line (reverse o) q.out r.out)
+      (dropped s.objects.items p.objects.items q.objects.items more.opened more.objects h.2.objects) down.closing in (
+        h.0,
+        h.1 ∙ ap (allotted_view rows) (sym closing.allotted),
+        record {
+          objects = truncated s.objects.items p.objects.items q.objects.items r.objects.items more.opened more.objects h.2.objects down.objects;
+          outside = down.outside ∙ h.2.outside ∙ more.outside;
+        },
+        (λ leads.
+            ended-code begun line c.code d.code (around_of s leads) (around_of p leads) more.opened (code_of s.out.code leads) (code_of p.out.code leads)
+            (code_of q.out.code leads) (code_of r.out.code leads) (more.began leads)
+            (λ start is. within-is s p more.opened (begun start) leads more.objects more.outside is)
+            (λ a. grows leads a) (h.3 leads) (closing.grown leads)),
+        subst (λ a. AllStand rows a.types.keys) (sym closing.allotted) h.4,
+      )
   end-made line c (Err l) more grows h down = h
 
   end-given : (line : ℕ) (c : Result (Made (Unit {0})) ℕ) (n : Making (Unit {0})) → Opens rows begun c tt s p

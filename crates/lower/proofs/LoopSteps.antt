@@ -35,8 +35,10 @@ one-stop {Y} {B} {next_view} {rows} {old} {mid} {new} {Q} {r} {e} l {view} {m} o
     is-ok : Result (Made (Unit {0})) ℕ → Type 0
     is-ok (Ok x) = Unit {0}
     is-ok (Err k) = ⊥
+
     differ : (k : ℕ) → emits_code (λ around start. l ∷ []) (allotted_view rows old.allotted) ≡ Err k → ⊥
     differ k q = subst is-ok q tt
+
     by : (e : LowerRefusal) → EmitsAs view rows old mid (Err e) (emits_code (λ around start. l ∷ [])) → GivesAs next_view rows old.allotted new Q (Err e) m
     by (TooManyRegisters k) h = λ stand. absurd (differ k (h stand))
     by (TooLong k) h = h

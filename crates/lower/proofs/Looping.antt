@@ -33,7 +33,7 @@ fits (x ∷ xs) ls few = by (nat_lt (length ls) most_instructions) refl (fits xs
   where
     by : (b : Bool) → nat_lt (length ls) most_instructions ≡ b
         → (length (ls ++ x ∷ []) ≤ most_instructions → Fitting xs (ls ++ x ∷ []) (added xs (Some (ls ++ x ∷ [])))) → Fitting (x ∷ xs) ls
-            (added xs (if_room x ls b))
+        (added xs (if_room x ls b))
     by true is next = more (next (subst (λ n. n ≤ most_instructions) (sym (length-more ls x)) (test (length ls) is)))
       where
         more : Fitting xs (ls ++ x ∷ []) (added xs (Some (ls ++ x ∷ []))) → Fitting (x ∷ xs) ls (added xs (Some (ls ++ x ∷ [])))
@@ -120,24 +120,32 @@ module _ (i : Inside) (line : ℕ) (r : Option ℕ) (body : ℕ → ℕ → List
       where
         x : ℕ
         x = body_at + length (body E C)
+
         n2 : ℕ
         n2 = body_at + length (body behind_loop next_round)
+
         ends : (b c : ℕ) → Placed C (body_at + length (body b c))
         ends b c = subst (Placed C) (front-length b c) (placed C (pre ++ leaves_at i line r 0 ++ body b c) ls few (here b c))
+
         done : List Line
         done = whole behind_loop next_round behind_loop next_round
+
         long : most_instructions < length ls + length (whole E C 0 x) → most_instructions < length ls + length done → s7 ≡ added done (Some ls)
         long a b = none (is ∙ fit-none (whole E C 0 x) ls few a) ∙ sym (fit-none done ls few b)
+
         by : ((C ≡ next_round) × (x ≡ next_round) × (n2 ≡ next_round)) ⊎ ((most_instructions < x) × (most_instructions < n2)) → s7 ≡ added done (Some ls)
         by (inr h) = long (omega (arith, h.0, whole-length E C 0 x)) (omega (arith, h.1, whole-length behind_loop next_round behind_loop next_round))
         by (inl h) = short (fits (whole E C 0 x) ls few)
           where
             steps : length (step x) ≡ length (step next_round)
             steps = ap (λ k. length (step k)) h.1
+
             total : length ls + length (whole E C 0 x) ≡ behind_loop
             total = whole-length E C 0 x ∙ ap suc (ap (λ k. k + length (step x)) h.1 ∙ ap (λ k. next_round + k) steps)
+
             total_done : length ls + length done ≡ behind_loop
             total_done = whole-length behind_loop next_round behind_loop next_round ∙ ap (λ k. suc (k + length (step next_round))) h.2
+
             short : Fitting (whole E C 0 x) ls (added (whole E C 0 x) (Some ls)) → s7 ≡ added done (Some ls)
             short (inr f) = long f.0 (omega (arith, f.0, total, total_done))
             short (inl f) = (s7-is ∙ (λ j. Some (ls ++ whole (E-is j) (h.0 j) (T-is j) (h.1 j)))) ∙ sym
@@ -145,10 +153,13 @@ module _ (i : Inside) (line : ℕ) (r : Option ℕ) (body : ℕ → ℕ → List
               where
                 T : ℕ
                 T = length (ls ++ whole E C 0 x)
+
                 T-is : T ≡ behind_loop
                 T-is = length-append ls (whole E C 0 x) ∙ total
+
                 s7-is : s7 ≡ Some (ls ++ whole E C T x)
                 s7-is = some x (is ∙ f.1)
+
                 E-is : E ≡ behind_loop
                 E-is =
                     (subst (IsHere E) s7-is behind).0 ∙ length-append ls (whole E C T x)
@@ -187,12 +198,13 @@ module _ (i : Inside) (line : ℕ) (body : ℕ → ℕ → List Line) (step : �
       ap (landed at out.1.place) (regrouped ls pre (body E C) (step x) (jump ∷ []) (at_line line (mid.JumpZ r 0)))
       ∙ (λ j. landed (at-is j) (place-is j) ((ls ++ pre) ++ at_line line (mid.JumpZ r 0) ∷ (body E C ++ step x ++ jump ∷ [])))
       ∙ landed-at (length (ls ++ whole i line (Some r) body step jump pre ls body_at E C 0 x)) (ls ++ pre) (at_line line (mid.JumpZ r 0))
-          (body E C ++ step x ++ jump ∷ [])
+      (body E C ++ step x ++ jump ∷ [])
       ∙ sym (regrouped ls pre (body E C) (step x) (jump ∷ [])
-          (at_line line (mid.JumpZ r (length (ls ++ whole i line (Some r) body step jump pre ls body_at E C 0 x))))))
+      (at_line line (mid.JumpZ r (length (ls ++ whole i line (Some r) body step jump pre ls body_at E C 0 x))))))
     where
       at-is : at ≡ length (ls ++ pre)
       at-is = (subst (IsHere at) (fit-some pre ls few room) out.0).0
+
       place-is : out.1.place ≡ length (ls ++ whole i line (Some r) body step jump pre ls body_at E C 0 x)
       place-is = (subst (IsHere out.1.place) is out.1.here).0
   out-some None (Some at) E C x s6 s7 out is room = absurd out
@@ -233,16 +245,19 @@ module _ (i : Inside) (around : Around) (line : ℕ) (r : Option ℕ) (body step
     where
       x : ℕ
       x = body_at + length (inner E C)
+
       front-is : length ls + length (pre ++ leaves_at i line r 0 ++ inner E C) ≡ x
       front-is =
           let p3 = length-append (pre ++ leaves_at i line r 0) (inner E C) in
           let p4 = length-append pre (leaves_at i line r 0) in
           omega arith
+
       all-is : s6 ≡ added (whole i line r inner (step around) jump pre ls body_at E C 0 x) (Some ls)
       all-is =
           is ∙ ap (λ s. with_line jump (grown around step s)) (at-body E C)
           ∙ ap (with_line jump) (grown-added around step (pre ++ leaves_at i line r 0 ++ inner E C) ls x front-is)
           ∙ sym (added-append (pre ++ leaves_at i line r 0 ++ inner E C ++ step around x) (jump ∷ []) (Some ls))
+
       room : (y : ℕ) → s6 ≡ Some (ls ++ whole i line r inner (step around) jump pre ls body_at E C 0 y) → length ls + length pre ≤ most_instructions
       room y some = by (fits (whole i line r inner (step around) jump pre ls body_at E C 0 x) ls few)
         where
@@ -251,14 +266,16 @@ module _ (i : Inside) (around : Around) (line : ℕ) (r : Option ℕ) (body step
               let p1 = length-append (pre ++ leaves_at i line r 0 ++ inner E C ++ step around x) (jump ∷ []) in
               let p2 = length-append (pre ++ leaves_at i line r 0 ++ inner E C) (step around x) in
               omega (arith, p1, p2, front-is, starts)
+
           by : Fitting (whole i line r inner (step around) jump pre ls body_at E C 0 x) ls
               (added (whole i line r inner (step around) jump pre ls body_at E C 0 x) (Some ls))
               → length ls + length pre ≤ most_instructions
           by (inl f) = omega (arith, f.0, longer)
           by (inr f) = absurd (subst is-some (sym some ∙ all-is ∙ f.1) tt)
+
       some : (y : ℕ) → s6 ≡ Some (ls ++ whole i line r inner (step around) jump pre ls body_at E C 0 y)
           → s7 ≡ Some (ls ++ whole i line r inner (step around) jump pre ls body_at E C
-              (length (ls ++ whole i line r inner (step around) jump pre ls body_at E C 0 y)) y)
+          (length (ls ++ whole i line r inner (step around) jump pre ls body_at E C 0 y)) y)
       some y sum = out-some i line inner (step around) jump pre ls few body_at r at E C y s6 s7 (subst (λ s. LeadsOut r at s s6 s7) front out) sum (room y sum)
 
 -- ---- the code of a loop
@@ -285,18 +302,25 @@ module _ (i : Inside) (around : Around) (line : ℕ) (body : Code) (top C E : �
     where
       first : List Line
       first = test around (suc (length ls))
+
       pre : List Line
       pre = at_line line mid.Turn ∷ first
+
       body_at : ℕ
       body_at = suc (length ls) + length first + length (leaves_at i line r 0)
+
       inside : ℕ → ℕ → List Line
       inside b c = body (within i b c around) body_at
+
       next : ℕ
       next = body_at + length (body (within i 0 0 around) body_at)
+
       end : ℕ
       end = suc (next + length (step around next))
+
       starts : length ls + length pre + length (leaves_at i line r 0) ≡ body_at
       starts = omega arith
+
       front-is : s2 ≡ added pre (Some ls)
       front-is = front ∙ grown-added around test (at_line line mid.Turn ∷ []) ls (suc (length ls)) (omega arith)
 
@@ -310,16 +334,19 @@ module _ (i : Inside) (around : Around) (line : ℕ) (body : Code) (top C E : �
       is ∙ none-stays i around (within i E C around) line None body test (at_line line (mid.JumpN x top)) s2 front
   do-grown x test (Some ls) s2 s6 start front here is behind =
       round-lines i around line None body test (at_line line (mid.JumpN x top)) (at_line line mid.Turn ∷ []) ls start.1 (suc (length ls)) starts s2 front C E
-          None s6 s6
+      None s6 s6
       here is refl behind
       ∙ ap (λ n. added (whole i line None inside (test around) (at_line line (mid.JumpN x n)) (at_line line mid.Turn ∷ []) ls (suc (length ls)) end next end
-          next) (Some ls)) start.0
+      next) (Some ls)) start.0
     where
       inside : ℕ → ℕ → List Line
       inside b c = body (within i b c around) (suc (length ls))
+
       next : ℕ
       next = suc (length ls) + length (body (within i 0 0 around) (suc (length ls)))
+
       end : ℕ
       end = suc (next + length (test around next))
+
       starts : length ls + length (at_line line mid.Turn ∷ []) + length (leaves_at i line None 0) ≡ suc (length ls)
       starts = omega arith

@@ -91,6 +91,7 @@ by-emits {A} {B} {view} {rows} {old} {new} {r} {m} h = record { is = by r h.is }
     made-by : (a : A) (m : Result (Made A) ℕ) → Makes rows m a old new → GivesMade rows m a new.allotted (Grew old new)
     made-by a (Ok m) h = (h.0, h.1, record { grows = h.2 }, h.3)
     made-by a (Err line) h = h
+
     by : (s : Result B LowerRefusal) → EmitsAs view rows old new s m → GivesAs view rows old.allotted new.allotted (Grew old new) s m
     by (Ok x) h = λ stand. made-by (view x) (m (allotted_view rows old.allotted)) (h stand)
     by (Err (TooManyRegisters line)) h = h
@@ -115,8 +116,10 @@ pub apart-step : {X A Y B : Type 0} {view : X → A} {next_view : Y → B} {rows
 unfolding ◌>>=◌
 apart-step {X} {A} {Y} {B} {view} {next_view} {rows} {old} {mid} {new} {P} {Q} {x} {y} {m} {w} f is first next =
     subst (Gives next_view rows old new Q (Ok y)) (sym is)
-    (record { is = λ stand. apart-then rows mid P f (view x) (λ z. GivesMade rows z (next_view y) new Q) (m (allotted_view rows old)) (first.is stand)
-    (λ c known. (next c known).is) })
+    (record {
+      is = λ stand. apart-then rows mid P f (view x) (λ z. GivesMade rows z (next_view y) new Q) (m (allotted_view rows old)) (first.is stand)
+          (λ c known. (next c known).is);
+    })
 
 -- a part is made apart, and the whole is refused, whatever the part's code
 pub apart-pass : {X A Y B : Type 0} {view : X → A} {next_view : Y → B} {rows : List Row} {old mid new : CodeAllotted} {P Q : Code → Type 0} {x : X}
@@ -192,6 +195,7 @@ wrap-step {Y} {B} {view} {rows} {old} {new} {P} {Q} {r} {m} g put h = record { i
     made-by : (b : B) (c : Result (Made B) ℕ) → GivesMade rows c b new P → GivesMade rows (around_code g c) b new Q
     made-by b (Ok c) h = (h.0, h.1, put c.code h.2, h.3)
     made-by b (Err line) h = h
+
     by : (s : Result Y LowerRefusal) → GivesAs view rows old new P s m → GivesAs view rows old new Q s (wrapped g m)
     by (Ok y) h = λ stand. made-by (view y) (m (allotted_view rows old)) (h stand)
     by (Err (TooManyRegisters line)) h = λ stand. ap (around_code g) (h stand)

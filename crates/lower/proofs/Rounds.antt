@@ -84,12 +84,13 @@ same-around old b1 b5 new objects C out4 out8 enter same leave = record {
   outside =
       leave.outside ∙ (λ j. take (length (all j) - length (enter.objects_then j)) (all j))
       ∙ ap (λ n. take n (old.outside.items ++ old.objects.items))
-          (count (length old.outside.items) (length old.objects.items) _ (length-append old.outside.items old.objects.items))
+      (count (length old.outside.items) (length old.objects.items) _ (length-append old.outside.items old.objects.items))
       ∙ take-append_seam old.outside.items old.objects.items;
 }
   where
     all : b5.outside.items ≡ old.outside.items ++ old.objects.items
     all = same.outside ∙ enter.outside
+
     count : (a b n : ℕ) → n ≡ a + b → n - b ≡ a
     count a b n is = omega arith
 
@@ -136,13 +137,13 @@ module _ (i : Inside) (line top C : ℕ) (old b1 b5 new : Body) (objects : Vec �
         let front = grown around test (with_line (at_line line mid.Turn) s0) in
         let last : Leads = record { break_at = leave.break_at; continue_at = C } in
         let at-front : (l : Leads) → code_of out3.code (l ∷ leads) ≡ front =
-            λ l. tested.grows (l ∷ leads) around ∙ ap (grown around test) (turn (l ∷ leads) ∙ ap (with_line (at_line line mid.Turn)) (enter.code l leads)) in
+        λ l. tested.grows (l ∷ leads) around ∙ ap (grown around test) (turn (l ∷ leads) ∙ ap (with_line (at_line line mid.Turn)) (enter.code l leads)) in
         let at-body : (b c : ℕ) → code_of b5.out.code (record { break_at = b; continue_at = c } ∷ leads)
-                ≡ grown (within i b c around) body (added (leaves_at i line r 0) front) =
-            λ b c. ran.grows (record { break_at = b; continue_at = c } ∷ leads)
-            ∙ (λ j. grown (around-inside i old b1 objects out4 enter b c leads j) body
-            ((leaves-grown i line r at out3 out4 unless (record { break_at = b; continue_at = c } ∷ leads)
-            ∙ ap (added (leaves_at i line r 0)) (at-front (record { break_at = b; continue_at = c }))) j)) in
+        ≡ grown (within i b c around) body (added (leaves_at i line r 0) front) =
+        λ b c. ran.grows (record { break_at = b; continue_at = c } ∷ leads)
+        ∙ (λ j. grown (around-inside i old b1 objects out4 enter b c leads j) body
+        ((leaves-grown i line r at out3 out4 unless (record { break_at = b; continue_at = c } ∷ leads)
+        ∙ ap (added (leaves_at i line r 0)) (at-front (record { break_at = b; continue_at = c }))) j)) in
         leave.code leads
         ∙ loop-grown i around line body top C leave.break_at r at test step s0 front (code_of out7.code (last ∷ leads)) (code_of out8.code (last ∷ leads))
         (start leads) refl
@@ -166,10 +167,10 @@ module _ (i : Inside) (line top C : ℕ) (old b1 b5 new : Body) (objects : Vec �
         let front = with_line (at_line line mid.Turn) s0 in
         let last : Leads = record { break_at = leave.break_at; continue_at = C } in
         let at-body : (b c : ℕ) → code_of b5.out.code (record { break_at = b; continue_at = c } ∷ leads) ≡ grown (within i b c around) body front =
-            λ b c. ran.grows (record { break_at = b; continue_at = c } ∷ leads)
-            ∙ (λ j. grown (around-inside i old b1 objects out2 enter b c leads j) body
-            ((turn (record { break_at = b; continue_at = c } ∷ leads) ∙ ap (with_line (at_line line mid.Turn))
-                (enter.code (record { break_at = b; continue_at = c }) leads)) j)) in
+        λ b c. ran.grows (record { break_at = b; continue_at = c } ∷ leads)
+        ∙ (λ j. grown (around-inside i old b1 objects out2 enter b c leads j) body
+        ((turn (record { break_at = b; continue_at = c } ∷ leads) ∙ ap (with_line (at_line line mid.Turn))
+        (enter.code (record { break_at = b; continue_at = c }) leads)) j)) in
         leave.code leads
         ∙ do-grown i around line body top C leave.break_at x test s0 front (code_of out7.code (last ∷ leads)) (start leads) refl
         (λ b c. subst (IsHere C) (at-body b c) (here (record { break_at = b; continue_at = c } ∷ leads)))

@@ -340,4 +340,3 @@ rounds_with-returns t c =
     (lowers (inside_view c.args.at) (stmt_view (types_of c.args.at) c.args.a.now))
     (option_map (value_view (types_of c.args.at)) (sym c.given-2.ensures j)))
     c.in_ok-rounds.ensures)) c.close_down_to.ensures
-
