@@ -1,5 +1,5 @@
 -- The parts of a function, as the code of the function names them.
-use Rattle.std.proofs.Common.{◌≡◌, ◌∙◌, ℕ, Bool, true, false, List, map, refl, sym, ap}
+use Rattle.std.proofs.Common.{◌≡◌, ◌∙◌, ℕ, true, false, List, map, refl, sym, ap}
 use Rattle.mid_code.specs.declared.mid.Mid.TheVariants as mid
 use Rattle.c_types.specs.declared.type_ref.TypeRef.{TypeRef}
 use Rattle.c_types.specs.Types.{CType, result_of}
@@ -9,7 +9,7 @@ use Rattle.c_typed.specs.Statements.{Items}
 use Rattle.c_typed.specs.StatementViews.{BlockView, all_items, block_item_view, function_view}
 use Rattle.source_meaning.specs.Calls.{numbers_below}
 use Rattle.source_meaning.specs.Statements.{locals_of}
-use Rattle.lower.specs.Emitting.{Making, ◌>>=◌, ◌>>◌, pure, emits, emits_code, wrapped, type_number}
+use Rattle.lower.specs.Emitting.{◌>>=◌, ◌>>◌, pure, emits, emits_code, wrapped, type_number}
 use Rattle.lower.specs.Expressions.{Inside, zero_for}
 use Rattle.lower.specs.Statements.{closes, living, all_begin, in_block, lowers_items}
 use Rattle.lower.specs.Programs.{with_parameters, leaves_at, exits_at, arguments_stand, parameters_begin, main_body, body_of, with_body, typed_code}
@@ -79,4 +79,5 @@ module _ (types : TypeRef → CType) (f : CodeFunction) where
         >>= (λ n. arguments_stand i (numbers_below f.parameters) >>= (λ done. with_body i (function_view types f) >>= (λ done. pure n))))
     typed-row =
         (λ k. type_number (type-is k) >>= (λ n. (arguments_stand i (numbers_below (count-is k)) >> with_body i (function_view types f)) >>= (λ done. pure n)))
-        ∙ (λ k. type_number (types f.ty) >>= (λ n. making-assoc (arguments_stand i (numbers_below f.parameters)) (λ done. with_body i (function_view types f)) (λ done. pure n) k))
+        ∙ (λ k. type_number (types f.ty) >>= (λ n. making-assoc (arguments_stand i (numbers_below f.parameters))
+        (λ done. with_body i (function_view types f)) (λ done. pure n) k))

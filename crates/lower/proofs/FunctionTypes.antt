@@ -1,7 +1,6 @@
 -- Types of functions, each once: what inserting the reference of a type makes of references that stand for types.
-use Rattle.std.proofs.Common.{◌≡◌, ℕ, zero, suc, ◌+◌, ◌<◌, Bool, true, false, not, ◌||◌, cond, if◌then◌else◌, List, [], ◌∷◌, ◌++◌, length, map, drop, get_or, All, refl, sym, ◌∙◌, ap, subst, arith}
+use Rattle.std.proofs.Common.{◌≡◌, ℕ, suc, ◌+◌, ◌<◌, Bool, true, false, not, ◌||◌, cond, if◌then◌else◌, List, [], ◌∷◌, ◌++◌, length, map, drop, get_or, refl, sym, ◌∙◌, ap, subst, arith}
 use Rattle.std.specs.List.{list_any, position_or_len}
-use Rattle.std.proofs.lemmas.List.{map-append}
 use Rattle.std.proofs.lemmas.List.Elements.{All-push}
 use Rattle.std.proofs.Math.Seq.{drop-cons}
 use Rattle.indexmap.specs.IndexSet.{insert_key}
@@ -10,7 +9,7 @@ use Rattle.c_types.specs.declared.type_ref.Row.{Row}
 use Rattle.c_types.specs.contracts.type_ref.TypeRefPartialEq.TheImpl as reference
 use Rattle.c_types.specs.contracts.type_ref.TypeRefEq.TheImpl.Laws.{laws-law}
 use Rattle.c_types.specs.Types.{CType, same_type}
-use Rattle.c_types.specs.Table.{type_at, Extends, Stands}
+use Rattle.c_types.specs.Table.{type_at, Stands}
 use Rattle.c_types.proofs.Grown.{Extends-refl}
 use Rattle.c_types.proofs.Rows.{same_ref}
 use Rattle.c_types.proofs.Same.{one-type, type-itself}

@@ -1,12 +1,10 @@
 -- Functions lowered one after another, and the program that they make.
-use Rattle.std.proofs.Common.{◌≡◌, ◌⊎◌, inl, inr, ℕ, ◌+◌, ◌<◌, suc, List, [], ◌∷◌, ◌++◌, length, map, drop, get_or, Result, Ok, Err, refl, sym, ◌∙◌, ap, subst, arith}
+use Rattle.std.proofs.Common.{◌≡◌, inr, ℕ, ◌+◌, ◌<◌, suc, List, [], ◌∷◌, ◌++◌, length, map, drop, get_or, Result, Ok, Err, refl, sym, ◌∙◌, ap, subst, arith}
 use Rattle.std.proofs.lemmas.List.{append-nil, append_assoc, length-map}
 use Rattle.std.proofs.Math.Seq.{drop-cons}
 use Rattle.std.specs.HashSet.{HashSet}
 use Rattle.srmt_base.specs.declared.part.Part.{Part}
-use Rattle.srmt_base.specs.declared.part.Part.TheVariants.{Protected, Binary}
 use Rattle.mid_code.specs.declared.program.MidFunction.{MidFunction}
-use Rattle.mid_code.specs.declared.program.MidProgram.{MidProgram}
 use Rattle.c_types.specs.declared.type_ref.TypeRef.{TypeRef}
 use Rattle.c_types.specs.declared.type_ref.Row.{Row}
 use Rattle.c_types.specs.Types.{CType}
@@ -16,12 +14,11 @@ use Rattle.c_typed.specs.declared.program.TypedFile.{TypedFile as CodeFile}
 use Rattle.c_typed.specs.declared.program.TypedProgram.{TypedProgram}
 use Rattle.c_typed.specs.Statements.{Function, Program, TypedFile}
 use Rattle.c_typed.specs.StatementViews.{function_view, file_view, program_view}
-use Rattle.source_meaning.specs.Places.{file_of}
 use Rattle.lower.specs.declared.refusal.LowerRefusal.{LowerRefusal}
 use Rattle.lower.specs.declared.refusal.LowerRefusal.TheVariants.{Memory}
 use Rattle.lower.specs.declared.functions.Lowered.{Lowered as CodeLowered}
-use Rattle.lower.specs.Programs.{Lowered, LoweredProgram, Each, IsFunction, IsProgram, and_others, lowered_function, lowered_functions, lowered, with_first, with_others, program_of, types_of_program, all_types}
-use Rattle.lower.specs.Functions.{AreTypes, Tells, GivesFunction, AddsFunctions, GivesFunctions, GivesProgram}
+use Rattle.lower.specs.Programs.{Lowered, Each, IsFunction, and_others, lowered_function, lowered_functions, types_of_program, all_types}
+use Rattle.lower.specs.Functions.{AreTypes, GivesFunction, GivesFunctions}
 
 -- ---- lists of which each is what it should be
 
@@ -36,7 +33,8 @@ each-append R (x ∷ xs) xs' (y ∷ ys) ys' h h' = (h.0, each-append R xs xs' ys
 -- what is said of the rest is said of the whole
 pub record Continues {K : Type 0} (keys : K → List TypeRef) (rows : List Row) (start now : List MidFunction)
     (whole rest : Result (List Lowered × List CType) LowerRefusal) : Type 0 where
-  pub then : (new : List MidFunction) (result : Result K LowerRefusal) → GivesFunctions keys rows now new rest result → GivesFunctions keys rows start new whole result
+  pub then : (new : List MidFunction) (result : Result K LowerRefusal) → GivesFunctions keys rows now new rest result
+      → GivesFunctions keys rows start new whole result
 
 -- so many functions are lowered, and these are the types of functions now
 pub record Reaches {K : Type 0} (keys : K → List TypeRef) (rows : List Row) (program : Program) (part : Part) (start now : List MidFunction)
@@ -59,7 +57,8 @@ module _ {K : Type 0} (keys : K → List TypeRef) (rows : List Row) where
     types = types;
     are = are;
     continues =
-        record { then = λ new result h. subst (λ (l : List Function). GivesFunctions keys rows start new (lowered_functions program part l types) result) is h };
+        record { then = λ new result h. subst (λ (l : List Function). GivesFunctions keys rows start new
+        (lowered_functions program part l types) result) is h };
   }
 
   pub memory-gives : (old new : List MidFunction) (whole : Result (List Lowered × List CType) LowerRefusal) (told : LowerRefusal) → told ≡ Memory
@@ -94,9 +93,11 @@ module _ {K : Type 0} (keys : K → List TypeRef) (rows : List Row) where
       by (Ok found) h continues = record {
         types = found.1;
         are = h.1;
-        continues = record { then = λ new result said.
-            continues.then new result
-            (one-more now new x.function found.0 (lowered_functions program part rest) found.1 h.0 result said) };
+        continues = record {
+          then = λ new result said.
+              continues.then new result
+              (one-more now new x.function found.0 (lowered_functions program part rest) found.1 h.0 result said);
+        };
       }
       by (Err refusal) h continues = absurd h
 

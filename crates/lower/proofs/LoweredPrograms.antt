@@ -1,5 +1,5 @@
 -- A program: the functions of both files behind one another, and what stands beside them.
-use Rattle.std.proofs.Common.{◌≡◌, ◌⊎◌, inl, inr, ℕ, List, [], ◌∷◌, ◌++◌, length, map, Result, Ok, Err, refl, sym, ◌∙◌, ap, subst}
+use Rattle.std.proofs.Common.{◌≡◌, inr, List, [], ◌++◌, length, map, Result, Ok, Err, refl, sym, ◌∙◌, ap, subst}
 use Rattle.srmt_base.specs.declared.part.Part.TheVariants.{Protected, Binary}
 use Rattle.mid_code.specs.declared.program.MidFunction.{MidFunction}
 use Rattle.mid_code.specs.declared.program.MidProgram.{MidProgram}
@@ -14,8 +14,8 @@ use Rattle.source_meaning.specs.Start.{objects_at_start}
 use Rattle.lower.specs.declared.refusal.LowerRefusal.{LowerRefusal}
 use Rattle.lower.specs.declared.refusal.LowerRefusal.TheVariants.{Memory}
 use Rattle.lower.specs.Expressions.{number_of}
-use Rattle.lower.specs.Programs.{Lowered, LoweredProgram, Each, IsFunction, IsProgram, lowered_functions, lowered, with_first, with_others, types_of_program, type_of_function, shortened}
-use Rattle.lower.specs.Functions.{AreTypes, AddsFunctions, GivesFunctions, GivesProgram}
+use Rattle.lower.specs.Programs.{Lowered, LoweredProgram, Each, IsFunction, lowered_functions, lowered, with_first, with_others, types_of_program, type_of_function, shortened}
+use Rattle.lower.specs.Functions.{AreTypes, GivesFunctions, GivesProgram}
 use Rattle.lower.proofs.LoweredFunctions.{each-append, functions_counted}
 
 memory-program : (whole : Result LoweredProgram LowerRefusal) (told : LowerRefusal) → told ≡ Memory → GivesProgram whole (Err told)

@@ -10,7 +10,7 @@ use Rattle.source_meaning.specs.Calls.{numbers_below}
 use Rattle.lower.specs.declared.body.Body.{Body}
 use Rattle.lower.specs.declared.emitter.Emitter.{Emitter}
 use Rattle.lower.specs.declared.refusal.LowerRefusal.{LowerRefusal}
-use Rattle.lower.specs.Emitting.{Allotted, Making, ◌>>=◌, ◌>>◌, pure, emits, either, new, settles, kind_of}
+use Rattle.lower.specs.Emitting.{Allotted, ◌>>=◌, pure, emits, either, new, settles, kind_of}
 use Rattle.lower.specs.Expressions.{Inside, row_at}
 use Rattle.lower.specs.Statements.{opens}
 use Rattle.lower.specs.Programs.{parameters_at, argument_stands, arguments_stand, parameter_opens, parameter_begins, parameters_begin}
@@ -147,4 +147,5 @@ module _ (i : Inside) (rows : List Row) (old mid new : Body) where
 pub parameters-done : (i : Inside) (rows : List Row) (s : Body) (all : List ℕ) → all ≡ []
     → Begins nothing rows (λ start. parameters_at i.rows start all) s s (Ok tt) (parameters_begin i all)
 parameters-done i rows s all is =
-    subst (λ (l : List ℕ). Begins nothing rows (λ start. parameters_at i.rows start l) s s (Ok tt) (parameters_begin i l)) (sym is) (begin-given (λ start. refl))
+    subst (λ (l : List ℕ). Begins nothing rows (λ start. parameters_at i.rows start l) s s (Ok tt) (parameters_begin i l)) (sym is)
+    (begin-given (λ start. refl))

@@ -1,5 +1,5 @@
 -- Static objects as they start.
-use Rattle.std.proofs.Common.{◌≡◌, ◌∙◌, eqb-true, ◌==◌, Bool, true, false, ℕ, zero, suc, ◌+◌, ◌-◌, ◌<◌, ◌≤◌, Option, Some, None, Bor, List, [], ◌∷◌, ◌++◌, length, get_or, take, drop, map, refl, sym, ap, subst, arith}
+use Rattle.std.proofs.Common.{◌≡◌, ◌∙◌, eqb-true, ◌==◌, Bool, true, false, ℕ, suc, ◌+◌, ◌-◌, ◌<◌, Option, Some, None, Bor, List, [], ◌∷◌, ◌++◌, length, get_or, take, drop, map, refl, sym, ap, arith}
 use Rattle.std.proofs.lemmas.List.{append_assoc, map_more, map-append}
 use Rattle.std.proofs.Math.Seq.{drop-cons}
 use Rattle.std.specs.Prelude.{slice_set, slice_get}
@@ -9,8 +9,6 @@ use Rattle.srmt_base.specs.declared.part.Part.{Part}
 use Rattle.srmt_base.specs.declared.statics.Static.{Static as StartingObject}
 use Rattle.c_types.specs.declared.type_ref.TypeRef.{TypeRef}
 use Rattle.c_types.specs.Types.{CType, array}
-use Rattle.c_typed.specs.declared.program.Start.{Start}
-use Rattle.c_typed.specs.declared.program.Start.TheVariants as start
 use Rattle.c_typed.specs.declared.program.StartCell.{StartCell}
 use Rattle.c_typed.specs.declared.program.Static.{Static as CodeStatic}
 use Rattle.c_typed.specs.declared.program.TextObject.{TextObject}

@@ -1,12 +1,10 @@
 -- A whole function: what stands before anything is lowered, and what is handed out at the end.
-use Rattle.std.proofs.Common.{◌≡◌, ◌⊎◌, inl, inr, ℕ, ◌+◌, ◌≤◌, nat_lt, Bool, true, false, List, [], ◌∷◌, ◌++◌, length, map, reverse, replicate, Option, Some, None, Result, Ok, Err, refl, sym, ◌∙◌, ap, subst, arith}
+use Rattle.std.proofs.Common.{◌≡◌, inl, inr, ℕ, ◌≤◌, nat_lt, Bool, true, false, List, [], ◌∷◌, ◌++◌, length, map, reverse, Some, None, Result, Ok, Err, refl, sym, ◌∙◌, ap, subst, arith}
 use Rattle.std.proofs.lemmas.List.{append-nil, append_assoc, length-append, length-map}
 use Rattle.std.proofs.lemmas.Bool.{lt-ltb, le-ltb, ltb-true, ltb-false}
 use Rattle.mid_code.specs.declared.mid.Mid.{Mid}
 use Rattle.mid_code.specs.declared.mid.Mid.TheVariants as mid
-use Rattle.mid_code.specs.declared.program.MidFunction.{MidFunction}
 use Rattle.mid_code.specs.declared.program.MidLine.{MidLine}
-use Rattle.mid_code.specs.declared.program.RegisterKind.{RegisterKind}
 use Rattle.c_types.specs.declared.type_ref.TypeRef.{TypeRef}
 use Rattle.c_types.specs.declared.type_ref.Row.{Row}
 use Rattle.c_types.specs.Types.{CType}
@@ -18,15 +16,14 @@ use Rattle.lower.specs.declared.functions.Lowered.{Lowered as CodeLowered}
 use Rattle.lower.specs.declared.inside.Inside.{Inside as CodeInside}
 use Rattle.lower.specs.declared.refusal.LowerRefusal.{LowerRefusal}
 use Rattle.lower.specs.declared.refusal.LowerRefusal.TheVariants.{TooManyRegisters, TooLong, Memory}
-use Rattle.lower.specs.Emitting.{Line, Code, Around, Allotted, Made, Making}
-use Rattle.lower.specs.Expressions.{Inside}
+use Rattle.lower.specs.Emitting.{Line, Allotted, Made, Making}
 use Rattle.lower.specs.Instructions.{instruction_view, line_view}
-use Rattle.lower.specs.SoFar.{Leads, Lines, with_line, if_room, added, grown, most_instructions}
+use Rattle.lower.specs.SoFar.{Lines, with_line, if_room, added, grown, most_instructions}
 use Rattle.lower.specs.Drafts.{code_of}
 use Rattle.lower.specs.Emits.{AllStand, allotted_view, itself, rows_of, types_of, inside_view}
 use Rattle.lower.specs.Runs.{around_of, MakesAround, RunsAs, Runs}
-use Rattle.lower.specs.Programs.{Lowered, IsInstruction, IsLine, Each, IsFunction, inside_of, nowhere, typed_code, nothing_allotted, if_short, finished, lowered_function}
-use Rattle.lower.specs.Functions.{AreTypes, Tells, GivesFunction, Starts}
+use Rattle.lower.specs.Programs.{Lowered, IsInstruction, IsLine, Each, nowhere, typed_code, nothing_allotted, if_short, finished, lowered_function}
+use Rattle.lower.specs.Functions.{AreTypes, GivesFunction, Starts}
 use Rattle.lower.proofs.Growing.{added-none}
 
 -- ---- code that stands behind nothing
@@ -118,25 +115,28 @@ module _ (rows : List Row) (f : Function) (body new : Body) where
     long-whole (Ok m) made long = long-by m (nat_lt most_instructions (length (m.code nowhere 0))) (sym long ∙ code-at m made)
     long-whole (Err line) made long = absurd made
 
-    lines-by : (m : Made ℕ) (x : CodeLowered) (b : Bool) → MakesAround rows (Ok m) ty body new → Some (map line_view x.function.code) ≡ kept (m.code nowhere 0) b
+    lines-by : (m : Made ℕ) (x : CodeLowered) (b : Bool) → MakesAround rows (Ok m) ty body new → Some (map line_view x.function.code) ≡ kept
+        (m.code nowhere 0) b
         → x.function.ty ≡ ty → x.function.kinds ≡ new.out.allotted.kinds.items → x.function.line ≡ f.line → x.types.keys ≡ new.out.allotted.types.keys
         → GivesFunction rows (if_short f m.given m.after (m.code nowhere 0) b) (Ok x)
     lines-by m x true made lines ty-is kinds line types = absurd (cc lines)
     lines-by m x false made lines ty-is kinds line types =
-        let is : map line_view x.function.code ≡ m.code nowhere 0 = cc lines in
-        (record {
-          type = ty-is ∙ sym made.0;
-          kinds = kinds ∙ sym (ap (λ (a : Allotted). a.kinds) made.1);
-          line = line;
-          code = subst (λ (ls : List Line). Each IsLine ls x.function.code) is (each-line x.function.code);
-        },
-        record {
-          stand = subst (AllStand rows) (sym types) made.4;
-          are = ap (map (type_at rows)) types ∙ sym (ap (λ (a : Allotted). a.types) made.1);
-        })
+        let is : map line_view x.function.code ≡ m.code nowhere 0 = cc lines in (
+          record {
+            type = ty-is ∙ sym made.0;
+            kinds = kinds ∙ sym (ap (λ (a : Allotted). a.kinds) made.1);
+            line = line;
+            code = subst (λ (ls : List Line). Each IsLine ls x.function.code) is (each-line x.function.code);
+          },
+          record {
+            stand = subst (AllStand rows) (sym types) made.4;
+            are = ap (map (type_at rows)) types ∙ sym (ap (λ (a : Allotted). a.types) made.1);
+          },
+        )
 
     -- it is handed out
-    pub lines-whole : (c : Result (Made ℕ) ℕ) (x : CodeLowered) → MakesAround rows c ty body new → code_of new.out.code [] ≡ Some (map line_view x.function.code)
+    pub lines-whole : (c : Result (Made ℕ) ℕ) (x : CodeLowered) → MakesAround rows c ty body new → code_of new.out.code [] ≡ Some
+        (map line_view x.function.code)
         → x.function.ty ≡ ty → x.function.kinds ≡ new.out.allotted.kinds.items → x.function.line ≡ f.line → x.types.keys ≡ new.out.allotted.types.keys
         → GivesFunction rows (finished f c) (Ok x)
     lines-whole (Ok m) x made lines ty-is kinds line types =
@@ -170,7 +170,8 @@ module _ (at : CodeInside) where
     abbrev whole : Result (Lowered × List CType) LowerRefusal
     whole = lowered_function (inside_view at).program at.part function_of known
 
-    from-start : (x : Result CodeLowered LowerRefusal) → GivesFunction (rows_of at) (finished function_of (making_of (allotted_view (rows_of at) body.out.allotted))) x
+    from-start : (x : Result CodeLowered LowerRefusal) → GivesFunction (rows_of at)
+        (finished function_of (making_of (allotted_view (rows_of at) body.out.allotted))) x
         → GivesFunction (rows_of at) whole x
     from-start x h =
         subst (λ (w : Result (Lowered × List CType) LowerRefusal). GivesFunction (rows_of at) w x)
@@ -183,7 +184,8 @@ module _ (at : CodeInside) where
       where
         by : (e : LowerRefusal) → RunsAs itself (rows_of at) body new (Err e) making_of → GivesFunction (rows_of at) whole (Err e)
         by (TooManyRegisters line) h =
-            from-start (Err (TooManyRegisters line)) (refused-whole (rows_of at) function_of body new (making_of (allotted_view (rows_of at) body.out.allotted)) line
+            from-start (Err (TooManyRegisters line)) (refused-whole (rows_of at) function_of body new
+            (making_of (allotted_view (rows_of at) body.out.allotted)) line
             (h (stand-start (rows_of at) (length at.function.now.locals) refs known body starts are)))
         by (TooLong line) h = absurd h
         by Memory h = memory-function (rows_of at) whole Memory refl

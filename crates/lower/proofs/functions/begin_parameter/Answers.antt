@@ -1,4 +1,4 @@
-use Rattle.std.proofs.Common.{◌≡◌, refl, sym, ◌∙◌, ap, subst, ℕ, List, [], ◌∷◌, true, false}
+use Rattle.std.proofs.Common.{subst, [], ◌∷◌, true}
 use Rattle.mid_code.specs.declared.mid.Mid.TheVariants as mid
 use Rattle.c_typed.specs.StatementViews.{row_view}
 use Rattle.lower.specs.Emits.{nothing, rows_of, types_of, inside_view, emits_mid}

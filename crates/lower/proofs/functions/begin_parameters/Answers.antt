@@ -1,4 +1,4 @@
-use Rattle.std.proofs.Common.{refl, sym, ◌∙◌, ap, ◌+◌, ◌-◌, ℕ, List, Ok, subst}
+use Rattle.std.proofs.Common.{sym, ◌+◌, ◌-◌, ℕ, List, Ok, subst}
 use Rattle.lower.specs.Emits.{nothing, rows_of, inside_view}
 use Rattle.lower.specs.Runs.{Begins}
 use Rattle.lower.specs.Programs.{parameters_at, parameters_begin}

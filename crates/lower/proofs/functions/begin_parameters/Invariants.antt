@@ -11,7 +11,8 @@ use Rattle.lower.proofs.functions.begin_parameters.Given as goal
 
 abbrev pub invariant-loop-number : goal.invariant-loop-number
 invariant-loop-number l = (new : Body) (r : Result ⊤ LowerRefusal) →
-    Begins nothing (rows_of l.at) (λ start. parameters_at (inside_view l.at).rows start (numbers_from (l.at.function.now.parameters - l.number) l.number)) l.body
+    Begins nothing (rows_of l.at) (λ start. parameters_at (inside_view l.at).rows start
+    (numbers_from (l.at.function.now.parameters - l.number) l.number)) l.body
     new r (parameters_begin (inside_view l.at) (numbers_from (l.at.function.now.parameters - l.number) l.number))
     → Begins nothing (rows_of l.at) (λ start. parameters_at (inside_view l.at).rows start (numbers_below l.at.function.now.parameters)) l.fn.body new r
     (parameters_begin (inside_view l.at) (numbers_below l.at.function.now.parameters))

@@ -1,5 +1,5 @@
 use Rattle.std.proofs.Common.{refl}
-use Rattle.lower.specs.Emits.{rows_of, types_of, inside_view}
+use Rattle.lower.specs.Emits.{types_of, inside_view}
 use Rattle.lower.proofs.Steps.{exits}
 use Rattle.lower.proofs.RunSteps.{run-step, run-stop, run-given, emit-step, emit-stop}
 use Rattle.lower.proofs.FunctionParts.{typed-row}
@@ -7,7 +7,8 @@ use Rattle.lower.proofs.functions.lower_all.Goals as goal
 
 pub returns-in_err-ty : goal.returns-in_err-ty
 returns-in_err-ty c =
-    emit-stop _ (typed-row (types_of c.args.at) c.args.at.function.now (inside_view c.args.at)) (exits c.from_residual.result _ c.from_residual.ensures.1) refl
+    emit-stop _ (typed-row (types_of c.args.at) c.args.at.function.now (inside_view c.args.at))
+    (exits c.from_residual.result _ c.from_residual.ensures.1) refl
     c.in_err-ty.ensures
 
 pub returns-in_err-stand_arguments : goal.returns-in_err-stand_arguments

@@ -1,5 +1,5 @@
-use Rattle.std.proofs.Common.{refl, sym, ◌∙◌, ap}
-use Rattle.lower.specs.Emits.{rows_of, types_of, inside_view}
+use Rattle.std.proofs.Common.{sym, ◌∙◌}
+use Rattle.lower.specs.Emits.{types_of, inside_view}
 use Rattle.lower.proofs.Steps.{exits}
 use Rattle.lower.proofs.RunSteps.{run-step, run-stop, run-same}
 use Rattle.lower.proofs.FunctionParts.{main-body, other-body}

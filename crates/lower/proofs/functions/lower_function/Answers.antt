@@ -1,4 +1,4 @@
-use Rattle.std.proofs.Common.{◌≡◌, refl, sym, ◌∙◌, ap, subst, length, map, [], Some}
+use Rattle.std.proofs.Common.{refl, sym, ◌∙◌, ap, subst, map, [], Some}
 use Rattle.lower.specs.Instructions.{line_view}
 use Rattle.lower.specs.Drafts.{code_of, TakesLines}
 use Rattle.lower.specs.Functions.{Starts}

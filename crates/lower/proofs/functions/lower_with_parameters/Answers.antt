@@ -1,8 +1,8 @@
-use Rattle.std.proofs.Common.{◌≡◌, arith, length, refl, sym, ◌∙◌, ap, take}
+use Rattle.std.proofs.Common.{◌≡◌, arith, length, refl, ◌∙◌, ap, take}
 use Rattle.c_typed.specs.StatementViews.{function_view}
 use Rattle.source_meaning.specs.Calls.{numbers_below}
 use Rattle.lower.specs.Programs.{parameters_at, parameters_begin, body_of}
-use Rattle.lower.specs.Emits.{rows_of, types_of, inside_view}
+use Rattle.lower.specs.Emits.{types_of, inside_view}
 use Rattle.lower.proofs.Steps.{exits}
 use Rattle.lower.proofs.RunSteps.{run-same}
 use Rattle.lower.proofs.Blocks.{live, live-refused, begin-refused}

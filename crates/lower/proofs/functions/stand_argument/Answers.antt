@@ -1,4 +1,4 @@
-use Rattle.std.proofs.Common.{◌≡◌, refl, sym, ◌∙◌, ap}
+use Rattle.std.proofs.Common.{◌∙◌, ap}
 use Rattle.c_types.specs.Table.{type_at}
 use Rattle.c_typed.specs.StatementViews.{row_view}
 use Rattle.lower.specs.Emitting.{kind_of}

@@ -28,7 +28,8 @@ loop-function-preserved c = λ types are.
     let fs = c.as_slice-function-items.result.now in
     let i = c.loop-function.function-index in
     let f = c.function-item.result in
-    reaches-pushed {K = HashSet TypeRef _} (λ known. known.keys) rows p c.args.part c.args.lowered.now.items c.loop-function.lowered.items c.push.new.self.items
+    reaches-pushed {K = HashSet TypeRef _} (λ known. known.keys) rows p c.args.part c.args.lowered.now.items c.loop-function.lowered.items
+    c.push.new.self.items
     (function_view (type_at rows) f) (map (function_view (type_at rows)) (drop (i + 1) fs)) (map (function_view (type_at rows)) (drop i fs))
     (lowered_functions p c.args.part (file_of c.args.part p).functions types) h.types c.in_ok-found.found
     (next-function (type_at rows) fs i f c.loop-function-test.true c.function-item.is) c.in_ok-push.ensures.items h.continues
@@ -42,7 +43,8 @@ returns-in_err-found c = λ types are.
     let fs = c.as_slice-function-items.result.now in
     let i = c.loop-function.function-index in
     let f = c.function-item.result in
-    refused-left {K = HashSet TypeRef _} (λ known. known.keys) rows p c.args.part c.args.lowered.now.items c.loop-function.lowered.items c.loop-function.lowered.items
+    refused-left {K = HashSet TypeRef _} (λ known. known.keys) rows p c.args.part c.args.lowered.now.items c.loop-function.lowered.items
+    c.loop-function.lowered.items
     (function_view (type_at rows) f) (map (function_view (type_at rows)) (drop (i + 1) fs)) (map (function_view (type_at rows)) (drop i fs))
     (lowered_functions p c.args.part (file_of c.args.part p).functions types) h.types _ c.from_residual.result
     (exits c.from_residual.result _ c.from_residual.ensures.1)

@@ -1,4 +1,4 @@
-use Rattle.std.proofs.Common.{◌≡◌, List, map, drop}
+use Rattle.std.proofs.Common.{List, map, drop}
 use Rattle.c_types.specs.Types.{CType}
 use Rattle.c_types.specs.Table.{type_at}
 use Rattle.c_typed.specs.StatementViews.{function_view, program_view}

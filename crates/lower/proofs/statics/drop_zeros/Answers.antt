@@ -1,5 +1,4 @@
-use Rattle.std.proofs.Common.{◌≡◌, ◌∙◌, ◌-◌, ℕ, Bool, true, false, Some, None, Option, Bor, length, sym, ap, refl}
-use Rattle.std.specs.Prelude.{slice_get}
+use Rattle.std.proofs.Common.{◌≡◌, ◌∙◌, ℕ, Some, None, Option, Bor, sym, ap, refl}
 use Rattle.std.specs.Option.{option_copied, option_eq}
 use Rattle.std.specs.contracts.prelude.U64PartialEq.TheImpl as numbers
 use Rattle.lower.proofs.StartingObjects.{is_zero, all_kept, last_dropped, asks_last}

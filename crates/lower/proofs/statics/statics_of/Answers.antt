@@ -1,4 +1,4 @@
-use Rattle.std.proofs.Common.{◌≡◌, ◌∙◌, ◌++◌, [], map, ap, sym}
+use Rattle.std.proofs.Common.{◌∙◌, ◌++◌, [], map, ap, sym}
 use Rattle.std.proofs.lemmas.List.{append-nil, take_all}
 use Rattle.c_types.specs.Table.{type_at}
 use Rattle.c_typed.specs.StatementViews.{program_view}
