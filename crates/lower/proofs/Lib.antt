@@ -2,6 +2,7 @@ mod Accesses
 mod Allotting
 mod BeginSteps
 mod Blocks
+mod Cells
 mod Changing
 mod Closing
 mod Deciding
