@@ -1,4 +1,4 @@
-use Rattle.std.proofs.Common.{Err, refl, sym, ◌∙◌, ap}
+use Rattle.std.proofs.Common.{rules, Err, refl, sym, ◌∙◌, ap}
 use Rattle.mid_code.specs.Registers.{registers_list}
 use Rattle.lower.specs.Emits.{rows_of, types_of, inside_view}
 use Rattle.lower.proofs.Steps.{exits, memory, step, stop, given, same-making}
@@ -120,7 +120,7 @@ pub change_pointer-returns : goal.change_pointer-returns
 change_pointer-returns t c = ?
 
 pub choose-value-requires-2 : goal.choose-value-requires-2
-choose-value-requires-2 t c = ?
+choose-value-requires-2 t c = search rules
 
 pub drop_all-loop-e-init : goal.drop_all-loop-e-init
 drop_all-loop-e-init t c = drops-begin (inside_view c.args.at) (types_of c.args.at) (rows_of c.args.at) c.as_slice-e-items.result.now c.args.k _
