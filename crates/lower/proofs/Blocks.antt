@@ -1,5 +1,5 @@
 -- Blocks: objects begin, what is inside runs while they live, and they end.
-use Rattle.std.proofs.Common.{◌≡◌, ℕ, zero, suc, ◌+◌, List, [], ◌∷◌, ◌++◌, length, reverse, take, drop, Bool, true, false, Option, Some, None, Result, Ok, Err, refl, sym, ◌∙◌, ap, subst, arith}
+use Rattle.std.proofs.Common.{◌≡◌, ℕ, List, ◌++◌, length, reverse, take, drop, Some, None, Result, Ok, Err, refl, sym, ◌∙◌, ap, subst}
 use Rattle.std.specs.Prelude.{⊤}
 use Rattle.std.proofs.lemmas.List.{append_assoc, reverse-append, take_at, drop_at}
 use Rattle.c_types.specs.declared.type_ref.Row.{Row}
@@ -7,13 +7,13 @@ use Rattle.lower.specs.declared.body.Body.{Body}
 use Rattle.lower.specs.declared.emitter.Emitter.{Emitter}
 use Rattle.lower.specs.declared.refusal.LowerRefusal.{LowerRefusal}
 use Rattle.lower.specs.declared.refusal.LowerRefusal.TheVariants.{TooManyRegisters, TooLong, Memory}
-use Rattle.lower.specs.Emitting.{Line, Code, ◌⨟◌, Around, Allotted, Made, Making, made, behind, and_then, around_code, wrapped, ◌>>=◌, ◌>>◌, pure}
+use Rattle.lower.specs.Emitting.{Line, Code, ◌⨟◌, Around, Made, Making, behind, and_then, around_code, wrapped, ◌>>=◌, ◌>>◌}
 use Rattle.lower.specs.SoFar.{Leads, leads_of, Lines, added, grown}
 use Rattle.lower.specs.Drafts.{code_of}
 use Rattle.lower.specs.Emits.{AllStand, allotted_view, Grows, nothing}
 use Rattle.lower.specs.Expressions.{Inside}
 use Rattle.lower.specs.Statements.{begun_at, living, closes, closed_behind, all_begin, in_block}
-use Rattle.lower.specs.Runs.{around_of, SameObjects, GrowsAround, MakesAround, RunsAs, Runs, BeganAt, MoreObjects, Opens, BeginsAs, Begins}
+use Rattle.lower.specs.Runs.{around_of, MakesAround, RunsAs, Runs, BeganAt, MoreObjects, Opens, BeginsAs, Begins}
 use Rattle.lower.specs.Bodies.{Closing, ClosingDown}
 use Rattle.lower.proofs.Growing.{added-none, added-append, grown-behind}
 

@@ -19,7 +19,7 @@ pub operand-refused : (rows : List Row) (line k x at : ℕ) (is_or : Bool) (b : 
     → Waiting line (deciding is_or x) s0 s1 at → Emits itself rows s1 s2 (Err e) b → r ≡ Err e
     → Emits itself rows s0 s2 r (decides is_or line k b x)
 operand-refused rows line k x at is_or b s0 s1 s2 r e waits second out =
-    stop {view = itself} _ refl out (jumped-refused {view = itself} waits (stop {view = itself} {next_view = itself} _ refl refl second))
+    stop {view = itself} _ refl out (jumped-refused {view = itself} waits (stop {view = itself} {next_view = itself} {new = s2} _ refl refl second))
 
 pub test-refused : (rows : List Row) (line k x at y : ℕ) (is_or : Bool) (b : Making ℕ) (s0 s1 s2 s3 : Emitter) (r : Result ℕ LowerRefusal) (e : LowerRefusal)
     → Waiting line (deciding is_or x) s0 s1 at → Emits itself rows s1 s2 (Ok y) b → Emits itself rows s2 s3 (Err e) (tests_second is_or line k y) → r ≡ Err e

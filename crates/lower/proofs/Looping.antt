@@ -1,14 +1,15 @@
 -- The code of a loop, once it is known where its jumps lead.
-use Rattle.std.proofs.Common.{◌≡◌, ◌≤◌, ◌<◌, ℕ, zero, suc, ◌+◌, Bool, true, false, List, [], ◌∷◌, ◌++◌, length, Option, Some, None, option_map, ◌⊎◌, inl, inr, refl, sym, ◌∙◌, ap, subst, arith, nat_lt}
+use Rattle.std.proofs.Common.{◌≡◌, ◌≤◌, ◌<◌, ℕ, suc, ◌+◌, Bool, true, false, List, [], ◌∷◌, ◌++◌, length, Option, Some, None, option_map, ◌⊎◌, inl, inr}
+use Rattle.std.proofs.Common.{refl, sym, ◌∙◌, ap, subst, arith, nat_lt}
 use Rattle.std.proofs.lemmas.List.{length-append, append_assoc, append-nil}
 use Rattle.std.proofs.lemmas.Bool.Decides.{nat_tests}
 use Rattle.mid_code.specs.declared.mid.Mid.TheVariants as mid
-use Rattle.lower.specs.Emitting.{Line, Code, Around, at_line, no_code}
+use Rattle.lower.specs.Emitting.{Line, Code, Around, at_line}
 use Rattle.lower.specs.Jumps.{LandsIn}
 use Rattle.lower.specs.Expressions.{Inside}
 use Rattle.lower.specs.SoFar.{Lines, with_line, if_room, added, grown, landed, line_to, IsHere, most_instructions}
 use Rattle.lower.specs.Statements.{leaves_at, loop_code, do_code, within}
-use Rattle.lower.proofs.Growing.{added-none, added-append, grown-at, grown-none}
+use Rattle.lower.proofs.Growing.{added-none, added-append, grown-at}
 
 -- ---- code that fits, or does not
 
@@ -31,7 +32,8 @@ fits [] ls few = inl (omega arith, ap Some (sym (append-nil ls)))
 fits (x ∷ xs) ls few = by (nat_lt (length ls) most_instructions) refl (fits xs (ls ++ x ∷ []))
   where
     by : (b : Bool) → nat_lt (length ls) most_instructions ≡ b
-        → (length (ls ++ x ∷ []) ≤ most_instructions → Fitting xs (ls ++ x ∷ []) (added xs (Some (ls ++ x ∷ [])))) → Fitting (x ∷ xs) ls (added xs (if_room x ls b))
+        → (length (ls ++ x ∷ []) ≤ most_instructions → Fitting xs (ls ++ x ∷ []) (added xs (Some (ls ++ x ∷ [])))) → Fitting (x ∷ xs) ls
+            (added xs (if_room x ls b))
     by true is next = more (next (subst (λ n. n ≤ most_instructions) (sym (length-more ls x)) (test (length ls) is)))
       where
         more : Fitting xs (ls ++ x ∷ []) (added xs (Some (ls ++ x ∷ []))) → Fitting (x ∷ xs) ls (added xs (Some (ls ++ x ∷ [])))
@@ -138,7 +140,8 @@ module _ (i : Inside) (line : ℕ) (r : Option ℕ) (body : ℕ → ℕ → List
             total_done = whole-length behind_loop next_round behind_loop next_round ∙ ap (λ k. suc (k + length (step next_round))) h.2
             short : Fitting (whole E C 0 x) ls (added (whole E C 0 x) (Some ls)) → s7 ≡ added done (Some ls)
             short (inr f) = long f.0 (omega (arith, f.0, total, total_done))
-            short (inl f) = (s7-is ∙ (λ j. Some (ls ++ whole (E-is j) (h.0 j) (T-is j) (h.1 j)))) ∙ sym (fit-some done ls few (omega (arith, f.0, total, total_done)))
+            short (inl f) = (s7-is ∙ (λ j. Some (ls ++ whole (E-is j) (h.0 j) (T-is j) (h.1 j)))) ∙ sym
+                (fit-some done ls few (omega (arith, f.0, total, total_done)))
               where
                 T : ℕ
                 T = length (ls ++ whole E C 0 x)
@@ -183,8 +186,10 @@ module _ (i : Inside) (line : ℕ) (body : ℕ → ℕ → List Line) (step : �
       out.1.landed ∙ ap (option_map (landed at out.1.place)) is ∙ ap Some (
       ap (landed at out.1.place) (regrouped ls pre (body E C) (step x) (jump ∷ []) (at_line line (mid.JumpZ r 0)))
       ∙ (λ j. landed (at-is j) (place-is j) ((ls ++ pre) ++ at_line line (mid.JumpZ r 0) ∷ (body E C ++ step x ++ jump ∷ [])))
-      ∙ landed-at (length (ls ++ whole i line (Some r) body step jump pre ls body_at E C 0 x)) (ls ++ pre) (at_line line (mid.JumpZ r 0)) (body E C ++ step x ++ jump ∷ [])
-      ∙ sym (regrouped ls pre (body E C) (step x) (jump ∷ []) (at_line line (mid.JumpZ r (length (ls ++ whole i line (Some r) body step jump pre ls body_at E C 0 x))))))
+      ∙ landed-at (length (ls ++ whole i line (Some r) body step jump pre ls body_at E C 0 x)) (ls ++ pre) (at_line line (mid.JumpZ r 0))
+          (body E C ++ step x ++ jump ∷ [])
+      ∙ sym (regrouped ls pre (body E C) (step x) (jump ∷ [])
+          (at_line line (mid.JumpZ r (length (ls ++ whole i line (Some r) body step jump pre ls body_at E C 0 x))))))
     where
       at-is : at ≡ length (ls ++ pre)
       at-is = (subst (IsHere at) (fit-some pre ls few room) out.0).0
@@ -246,12 +251,14 @@ module _ (i : Inside) (around : Around) (line : ℕ) (r : Option ℕ) (body step
               let p1 = length-append (pre ++ leaves_at i line r 0 ++ inner E C ++ step around x) (jump ∷ []) in
               let p2 = length-append (pre ++ leaves_at i line r 0 ++ inner E C) (step around x) in
               omega (arith, p1, p2, front-is, starts)
-          by : Fitting (whole i line r inner (step around) jump pre ls body_at E C 0 x) ls (added (whole i line r inner (step around) jump pre ls body_at E C 0 x) (Some ls))
+          by : Fitting (whole i line r inner (step around) jump pre ls body_at E C 0 x) ls
+              (added (whole i line r inner (step around) jump pre ls body_at E C 0 x) (Some ls))
               → length ls + length pre ≤ most_instructions
           by (inl f) = omega (arith, f.0, longer)
           by (inr f) = absurd (subst is-some (sym some ∙ all-is ∙ f.1) tt)
       some : (y : ℕ) → s6 ≡ Some (ls ++ whole i line r inner (step around) jump pre ls body_at E C 0 y)
-          → s7 ≡ Some (ls ++ whole i line r inner (step around) jump pre ls body_at E C (length (ls ++ whole i line r inner (step around) jump pre ls body_at E C 0 y)) y)
+          → s7 ≡ Some (ls ++ whole i line r inner (step around) jump pre ls body_at E C
+              (length (ls ++ whole i line r inner (step around) jump pre ls body_at E C 0 y)) y)
       some y sum = out-some i line inner (step around) jump pre ls few body_at r at E C y s6 s7 (subst (λ s. LeadsOut r at s s6 s7) front out) sum (room y sum)
 
 -- ---- the code of a loop
@@ -302,9 +309,11 @@ module _ (i : Inside) (around : Around) (line : ℕ) (body : Code) (top C E : �
   do-grown x test None s2 s6 start front here is behind =
       is ∙ none-stays i around (within i E C around) line None body test (at_line line (mid.JumpN x top)) s2 front
   do-grown x test (Some ls) s2 s6 start front here is behind =
-      round-lines i around line None body test (at_line line (mid.JumpN x top)) (at_line line mid.Turn ∷ []) ls start.1 (suc (length ls)) starts s2 front C E None s6 s6
+      round-lines i around line None body test (at_line line (mid.JumpN x top)) (at_line line mid.Turn ∷ []) ls start.1 (suc (length ls)) starts s2 front C E
+          None s6 s6
       here is refl behind
-      ∙ ap (λ n. added (whole i line None inside (test around) (at_line line (mid.JumpN x n)) (at_line line mid.Turn ∷ []) ls (suc (length ls)) end next end next) (Some ls)) start.0
+      ∙ ap (λ n. added (whole i line None inside (test around) (at_line line (mid.JumpN x n)) (at_line line mid.Turn ∷ []) ls (suc (length ls)) end next end
+          next) (Some ls)) start.0
     where
       inside : ℕ → ℕ → List Line
       inside b c = body (within i b c around) (suc (length ls))

@@ -2,6 +2,7 @@
 use Rattle.std.proofs.Common.{◌≡◌, ◌⊎◌, inl, inr, ℕ, ◌+◌, ◌<◌, suc, List, [], ◌∷◌, ◌++◌, length, map, drop, get_or, Result, Ok, Err, refl, sym, ◌∙◌, ap, subst, arith}
 use Rattle.std.proofs.lemmas.List.{append-nil, append_assoc, length-map}
 use Rattle.std.proofs.Math.Seq.{drop-cons}
+use Rattle.std.specs.HashSet.{HashSet}
 use Rattle.srmt_base.specs.declared.part.Part.{Part}
 use Rattle.srmt_base.specs.declared.part.Part.TheVariants.{Protected, Binary}
 use Rattle.mid_code.specs.declared.program.MidFunction.{MidFunction}
@@ -44,7 +45,23 @@ pub record Reaches {K : Type 0} (keys : K → List TypeRef) (rows : List Row) (p
   pub are : AreTypes rows refs types
   pub continues : Continues keys rows start now whole (lowered_functions program part rest types)
 
+-- the same of a set of types
+abbrev pub ReachesWith : {S : Type 0} (known : HashSet TypeRef S) (rows : List Row) (program : Program) (part : Part) (start now : List MidFunction)
+    (rest : List Function) (whole : Result (List Lowered × List CType) LowerRefusal) → Type 0
+ReachesWith {S} known rows program part start now rest whole =
+    Reaches {K = HashSet TypeRef S} (λ k. k.keys) rows program part start now known.keys rest whole
+
 module _ {K : Type 0} (keys : K → List TypeRef) (rows : List Row) where
+  -- none is lowered yet
+  pub reaches-start : (program : Program) (part : Part) (start : List MidFunction) (refs : List TypeRef) (types : List CType) (rest all : List Function)
+      → AreTypes rows refs types → rest ≡ all → Reaches keys rows program part start start refs rest (lowered_functions program part all types)
+  reaches-start program part start refs types rest all are is = record {
+    types = types;
+    are = are;
+    continues =
+        record { then = λ new result h. subst (λ (l : List Function). GivesFunctions keys rows start new (lowered_functions program part l types) result) is h };
+  }
+
   pub memory-gives : (old new : List MidFunction) (whole : Result (List Lowered × List CType) LowerRefusal) (told : LowerRefusal) → told ≡ Memory
       → GivesFunctions keys rows old new whole (Err told)
   memory-gives old new (Ok found) told is = is
@@ -96,6 +113,29 @@ module _ {K : Type 0} (keys : K → List TypeRef) (rows : List Row) where
           → GivesFunctions keys rows now new (and_others r (lowered_functions program part rest)) (Err told)
       by (Ok found) h = memory-gives now new (and_others (Ok found) (lowered_functions program part rest)) told h
       by (Err refusal) h = h
+
+  -- the same of what the code has left
+  pub reaches-pushed : (program : Program) (part : Part) (start now pushed : List MidFunction) (f : Function) (rest left : List Function)
+      (whole : Result (List Lowered × List CType) LowerRefusal) (types : List CType) (x : CodeLowered)
+      → left ≡ f ∷ rest → pushed ≡ now ++ x.function ∷ [] → Continues keys rows start now whole (lowered_functions program part left types)
+      → GivesFunction rows (lowered_function program part f types) (Ok x) → Reaches keys rows program part start pushed x.types.keys rest whole
+  reaches-pushed program part start now pushed f rest left whole types x is push continues given =
+      subst (λ (l : List MidFunction). Reaches keys rows program part start l x.types.keys rest whole) (sym push)
+      (reaches-next program part start now f rest whole types x
+      (subst (λ (l : List Function). Continues keys rows start now whole (lowered_functions program part l types)) is continues) given)
+
+  pub refused-left : (program : Program) (part : Part) (start now new : List MidFunction) (f : Function) (rest left : List Function)
+      (whole : Result (List Lowered × List CType) LowerRefusal) (types : List CType) (told : LowerRefusal) (r : Result K LowerRefusal)
+      → r ≡ Err told → left ≡ f ∷ rest → Continues keys rows start now whole (lowered_functions program part left types)
+      → GivesFunction rows (lowered_function program part f types) (Err told) → GivesFunctions keys rows start new whole r
+  refused-left program part start now new f rest left whole types told r out is continues given =
+      subst (GivesFunctions keys rows start new whole) (sym out)
+      (refused-gives program part start now new f rest whole types told
+      (subst (λ (l : List Function). Continues keys rows start now whole (lowered_functions program part l types)) is continues) given)
+
+  pub memory-left : (old new : List MidFunction) (whole : Result (List Lowered × List CType) LowerRefusal) (r : Result K LowerRefusal)
+      → r ≡ Err Memory → GivesFunctions keys rows old new whole r
+  memory-left old new whole r is = subst (GivesFunctions keys rows old new whole) (sym is) (memory-gives old new whole Memory refl)
 
   -- none is left
   pub all-reached : (program : Program) (part : Part) (start now : List MidFunction) (rest : List Function)

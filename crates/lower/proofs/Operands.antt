@@ -13,9 +13,9 @@ use Rattle.lower.specs.Expressions.{Inside, value_of, address_of, location_of}
 use Rattle.lower.specs.Emits.{Emits, itself, located_view}
 
 module _ {rows : List Row} {old new : Emitter} (i : Inside) (types : TypeRef → CType) (k : ℕ) where
-  pub value-at : {r : Result ℕ LowerRefusal} {x y : v.Value} → y ≡ x
+  pub operand-at : {r : Result ℕ LowerRefusal} {x y : v.Value} → y ≡ x
       → Emits itself rows old new r (value_of i (value_view types y) k) → Emits itself rows old new r (value_of i (value_view types x) k)
-  value-at {r} is h = subst (λ z. Emits itself rows old new r (value_of i (value_view types z) k)) is h
+  operand-at {r} is h = subst (λ z. Emits itself rows old new r (value_of i (value_view types z) k)) is h
 
   pub address-at : {r : Result ℕ LowerRefusal} {x y : p.Place} → y ≡ x
       → Emits itself rows old new r (address_of i (place_view types y) k) → Emits itself rows old new r (address_of i (place_view types x) k)

@@ -1,17 +1,18 @@
 -- What a construct makes whose parts are made apart: the code of each part stands in a place of its own.
-use Rattle.std.proofs.Common.{◌≡◌, ℕ, ◌+◌, List, [], ◌∷◌, ◌++◌, Result, Ok, Err, refl, sym, ◌∙◌, ap, subst, arith}
+use Rattle.std.proofs.Common.{◌≡◌, ℕ, ◌+◌, List, Result, Ok, Err, refl, sym, ap, subst, arith}
 use Rattle.std.proofs.lemmas.List.{append-nil}
-use Rattle.std.specs.Prelude.{⊤, length}
+use Rattle.std.specs.Prelude.{⊤}
 use Rattle.c_types.specs.declared.type_ref.Row.{Row}
 use Rattle.lower.specs.declared.allotted.Allotted.{Allotted as CodeAllotted}
 use Rattle.lower.specs.declared.body.Body.{Body}
 use Rattle.lower.specs.declared.emitter.Emitter.{Emitter}
 use Rattle.lower.specs.declared.refusal.LowerRefusal.{LowerRefusal}
 use Rattle.lower.specs.declared.refusal.LowerRefusal.TheVariants.{TooManyRegisters, TooLong, Memory}
-use Rattle.lower.specs.Emitting.{Code, ◌⨟◌, no_code, Around, Allotted, Made, Making, made, behind, and_then, ◌>>=◌, ◌>>◌, pure, apart, code_of as code_apart, wrapped, around_code, emits_code}
+use Rattle.lower.specs.Emitting.{Code, ◌⨟◌, no_code, Made, Making, behind, and_then, ◌>>=◌, ◌>>◌, pure, apart, code_of as code_apart, wrapped, around_code}
+use Rattle.lower.specs.Emitting.{emits_code}
 use Rattle.lower.specs.Drafts.{code_of}
 use Rattle.lower.specs.Emits.{AllStand, allotted_view, Grows, Makes, EmitsAs, Emits}
-use Rattle.lower.specs.Runs.{around_of, SameObjects, GrowsAround, MakesAround, RunsAs, Runs}
+use Rattle.lower.specs.Runs.{SameObjects, GrowsAround, MakesAround, RunsAs, Runs}
 
 -- ---- no code before and behind
 
@@ -41,7 +42,8 @@ GivesAs view rows old new P (Err (TooManyRegisters line)) m = AllStand rows old.
 GivesAs view rows old new P (Err (TooLong line)) m = ⊥
 GivesAs view rows old new P (Err Memory) m = ⊤
 
-pub record Gives {A B : Type 0} (view : B → A) (rows : List Row) (old new : CodeAllotted) (P : Code → Type 0) (result : Result B LowerRefusal) (m : Making A) : Type 0 where
+pub record Gives {A B : Type 0} (view : B → A) (rows : List Row) (old new : CodeAllotted) (P : Code → Type 0) (result : Result B LowerRefusal) (m : Making A)
+    : Type 0 where
   pub is : GivesAs view rows old new P result m
 
 -- what a statement runs
@@ -158,7 +160,8 @@ unfolding ◌>>=◌
 together-given {Y} {A} {next_view} {rows} {s} {Q} {y} c known = record { is = λ stand. (refl, refl, subst Q (sym (after c)) known, stand) }
 
 -- what is allotted stays while code is led
-pub gives-same : {Y B : Type 0} {view : Y → B} {rows : List Row} {old mid new next : CodeAllotted} {Q : Code → Type 0} {r : Result Y LowerRefusal} {m : Making B}
+pub gives-same : {Y B : Type 0} {view : Y → B} {rows : List Row} {old mid new next : CodeAllotted} {Q : Code → Type 0} {r : Result Y LowerRefusal}
+    {m : Making B}
     → mid ≡ old → next ≡ new → Gives view rows mid next Q r m → Gives view rows old new Q r m
 gives-same {Y} {B} {view} {rows} {old} {mid} {new} {next} {Q} {r} {m} first last h =
     subst (λ z. Gives view rows old z Q r m) last (subst (λ z. Gives view rows z next Q r m) first h)

@@ -1,11 +1,11 @@
 -- What the rounds of a loop run.
-use Rattle.std.proofs.Common.{◌≡◌, ℕ, suc, ◌+◌, ◌-◌, List, [], ◌∷◌, ◌++◌, length, take, reverse, Option, Some, None, Result, Ok, Err, refl, sym, ◌∙◌, ap, subst, arith}
+use Rattle.std.proofs.Common.{◌≡◌, ℕ, ◌+◌, ◌-◌, List, [], ◌∷◌, ◌++◌, length, take, reverse, Option, Some, None, Result, Ok, Err, refl, sym, ◌∙◌, ap, subst}
+use Rattle.std.proofs.Common.{arith}
 use Rattle.std.specs.Prelude.{⊤}
 use Rattle.std.specs.declared.alloc.Global.{Global}
 use Rattle.std.specs.declared.vec.Vec.{Vec}
 use Rattle.std.proofs.lemmas.List.{length-append, reverse-append}
 use Rattle.std.proofs.Math.Seq.{take-append_seam}
-use Rattle.mid_code.specs.declared.mid.Mid.{Mid}
 use Rattle.mid_code.specs.declared.mid.Mid.TheVariants as mid
 use Rattle.c_types.specs.declared.type_ref.Row.{Row}
 use Rattle.lower.specs.declared.allotted.Allotted.{Allotted as CodeAllotted}
@@ -13,14 +13,13 @@ use Rattle.lower.specs.declared.body.Body.{Body}
 use Rattle.lower.specs.declared.emitter.Emitter.{Emitter}
 use Rattle.lower.specs.declared.refusal.LowerRefusal.{LowerRefusal}
 use Rattle.lower.specs.declared.refusal.LowerRefusal.TheVariants.{TooManyRegisters, TooLong, Memory}
-use Rattle.lower.specs.Emitting.{Line, Code, Around, at_line, Made, Making, emits_code}
+use Rattle.lower.specs.Emitting.{Line, Code, Around, at_line, Making, emits_code}
 use Rattle.lower.specs.Expressions.{Inside}
 use Rattle.lower.specs.Instructions.{told}
-use Rattle.lower.specs.SoFar.{Leads, leads_of, Lines, with_line, added, grown, IsHere}
+use Rattle.lower.specs.SoFar.{Leads, Lines, with_line, added, grown, IsHere}
 use Rattle.lower.specs.Drafts.{code_of}
-use Rattle.lower.specs.Emits.{AllStand, allotted_view, Grows, Makes, Emits}
-use Rattle.lower.specs.Runs.{around_of, SameObjects, GrowsAround}
-use Rattle.lower.specs.Jumps.{LandsIn}
+use Rattle.lower.specs.Emits.{allotted_view, Makes, Emits}
+use Rattle.lower.specs.Runs.{around_of, SameObjects}
 use Rattle.lower.specs.Bodies.{EntersLoop, LeavesLoop, LeavesUnless, LandsIf}
 use Rattle.lower.specs.Statements.{leaves_at, loop_code, do_code, within}
 use Rattle.lower.proofs.Parts.{Gives, GivesAs, GivesMade, Ran, Grew}
@@ -53,7 +52,8 @@ one-step {Y} {B} {next_view} {rows} {old} {mid} {new} {Q} {y} {x} l {view} {m} f
         ((next (λ leads. h.2 leads no_around ∙ grown-one l no_around (code_of old.code leads))).is h.3)
 
 -- and what is refused after it
-pub one-pass : {Y B : Type 0} {next_view : Y → B} {rows : List Row} {old mid : Emitter} {new : CodeAllotted} {Q : Code → Type 0} {r : Result Y LowerRefusal} {x : ⊤}
+pub one-pass : {Y B : Type 0} {next_view : Y → B} {rows : List Row} {old mid : Emitter} {new : CodeAllotted} {Q : Code → Type 0} {r : Result Y LowerRefusal}
+    {x : ⊤}
     (l : Line) {view : ⊤ → Unit {0}} {m : Making B} → Emits view rows old mid (Ok x) (emits_code (λ around start. l ∷ []))
     → Gives next_view rows mid.allotted new Q r m → Gives next_view rows old.allotted new Q r m
 one-pass {Y} {B} {next_view} {rows} {old} {mid} {new} {Q} {r} {x} l {view} {m} first next = record { is = by r next.is }
@@ -83,7 +83,8 @@ same-around old b1 b5 new objects C out4 out8 enter same leave = record {
   objects = leave.objects_now ∙ enter.objects_then;
   outside =
       leave.outside ∙ (λ j. take (length (all j) - length (enter.objects_then j)) (all j))
-      ∙ ap (λ n. take n (old.outside.items ++ old.objects.items)) (count (length old.outside.items) (length old.objects.items) _ (length-append old.outside.items old.objects.items))
+      ∙ ap (λ n. take n (old.outside.items ++ old.objects.items))
+          (count (length old.outside.items) (length old.objects.items) _ (length-append old.outside.items old.objects.items))
       ∙ take-append_seam old.outside.items old.objects.items;
 }
   where
@@ -167,7 +168,8 @@ module _ (i : Inside) (line top C : ℕ) (old b1 b5 new : Body) (objects : Vec �
         let at-body : (b c : ℕ) → code_of b5.out.code (record { break_at = b; continue_at = c } ∷ leads) ≡ grown (within i b c around) body front =
             λ b c. ran.grows (record { break_at = b; continue_at = c } ∷ leads)
             ∙ (λ j. grown (around-inside i old b1 objects out2 enter b c leads j) body
-            ((turn (record { break_at = b; continue_at = c } ∷ leads) ∙ ap (with_line (at_line line mid.Turn)) (enter.code (record { break_at = b; continue_at = c }) leads)) j)) in
+            ((turn (record { break_at = b; continue_at = c } ∷ leads) ∙ ap (with_line (at_line line mid.Turn))
+                (enter.code (record { break_at = b; continue_at = c }) leads)) j)) in
         leave.code leads
         ∙ do-grown i around line body top C leave.break_at x test s0 front (code_of out7.code (last ∷ leads)) (start leads) refl
         (λ b c. subst (IsHere C) (at-body b c) (here (record { break_at = b; continue_at = c } ∷ leads)))

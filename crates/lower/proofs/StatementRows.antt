@@ -1,5 +1,5 @@
 -- What a statement of the code is lowered to: the row of its node.
-use Rattle.std.proofs.Common.{◌≡◌, ℕ, List, [], map, Option, Some, None, refl, sym, ◌∙◌, ap}
+use Rattle.std.proofs.Common.{◌≡◌, ℕ, List, map, Option, Some, None, refl, sym, ◌∙◌, ap}
 use Rattle.std.specs.Prelude.{option_map}
 use Rattle.mid_code.specs.declared.mid.Mid.TheVariants as mid
 use Rattle.c_types.specs.declared.type_ref.TypeRef.{TypeRef}
@@ -27,7 +27,7 @@ use Rattle.lower.specs.Statements.{lowers, lowers_items, in_block, looped, do_lo
 use Rattle.lower.specs.Nodes.{for_of}
 
 -- the parts of a block
-block_parts : (types : TypeRef → CType) (b : code_block.Block)
+pub block_parts : (types : TypeRef → CType) (b : code_block.Block)
     → block_view types b ≡ record { line = b.line; items = all_items (map (block_item_view types) b.items); end = b.end }
 block_parts types b =
     ap (block_view types) (sym (code_block.rolls-Block' (record { line = b.line; items = b.items; end = b.end })))

@@ -32,10 +32,8 @@ impl Emitter {
         k: usize,
         args: Registers,
     ) -> Result<u16, LowerRefusal>
-        ensures {
-            Emits itself (rows_of inside.entry) self.old self.new result
-                (called (types_of inside.entry of) line at function k (registers_list args))
-        }
+        ensures { Emits itself (rows_of inside.entry) self.old self.new result
+            (called (types_of inside.entry of) line at function k (registers_list args)) }
     {
         let target = self.target_for(inside, of, k, line)?;
         self.emit(
@@ -61,10 +59,8 @@ impl Emitter {
         callee: u16,
         args: Registers,
     ) -> Result<u16, LowerRefusal>
-        ensures {
-            Emits itself (rows_of inside.entry) self.old self.new result
-                (called_through (types_of inside.entry of) (target_of (types_of inside.entry pointer)).type line at k callee (registers_list args))
-        }
+        ensures { Emits itself (rows_of inside.entry) self.old self.new result
+            (called_through (types_of inside.entry of) (target_of (types_of inside.entry pointer)).type line at k callee (registers_list args)) }
     {
         let target = self.target_for(inside, of, k, line)?;
         let ty = self.type_number(inside, inside.types().target(pointer).target)?;
@@ -81,12 +77,7 @@ impl Emitter {
     }
 
     /// `putchar`, whose result is the byte as an `unsigned char` (C11 7.21.7.8).
-    pub(crate) fn put_byte(
-        &mut self,
-        line: u32,
-        at: u32,
-        source: u16,
-    ) -> Result<u16, LowerRefusal>
+    pub(crate) fn put_byte(&mut self, line: u32, at: u32, source: u16) -> Result<u16, LowerRefusal>
         ensures { (rows : List Row) → Emits itself rows self.old self.new result (byte_put line at source) }
     {
         self.emit(at, Mid::Put { source })?;
@@ -94,12 +85,7 @@ impl Emitter {
     }
 
     /// `getchar` (C11 7.21.7.6).
-    pub(crate) fn get_byte(
-        &mut self,
-        line: u32,
-        at: u32,
-        k: usize,
-    ) -> Result<u16, LowerRefusal>
+    pub(crate) fn get_byte(&mut self, line: u32, at: u32, k: usize) -> Result<u16, LowerRefusal>
         ensures { (rows : List Row) → Emits itself rows self.old self.new result (byte_got line at k) }
     {
         let target = self.temporary(k, line)?;

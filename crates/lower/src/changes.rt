@@ -41,10 +41,8 @@ impl Emitter {
         k: usize,
         located: Located,
     ) -> Result<Change, LowerRefusal>
-        ensures {
-            Emits change_view (rows_of at.entry) self.old self.new result
-                (changing_integer is_after line (types_of at.entry of) k (located_view located))
-        }
+        ensures { Emits change_view (rows_of at.entry) self.old self.new result
+            (changing_integer is_after line (types_of at.entry of) k (located_view located)) }
     {
         let old = self.fetch(at, line, of, k, located)?;
         if !is_after {
@@ -64,10 +62,8 @@ impl Emitter {
         k: usize,
         located: Located,
     ) -> Result<Change, LowerRefusal>
-        ensures {
-            Emits change_view (rows_of at.entry) self.old self.new result
-                (changing_pointer is_after line (types_of at.entry of) k (located_view located))
-        }
+        ensures { Emits change_view (rows_of at.entry) self.old self.new result
+            (changing_pointer is_after line (types_of at.entry of) k (located_view located)) }
     {
         let old = self.fetch(at, line, of, k, located)?;
         if !is_after {
@@ -116,10 +112,8 @@ impl Emitter {
         change: Change,
         right: u16,
     ) -> Result<u16, LowerRefusal>
-        ensures {
-            (rows : List Row) → Emits itself rows self.old self.new result
-                (integer_changed by.is_after by.op by.ty ty by.at line (located_view located) (change_view change) right)
-        }
+        ensures { (rows : List Row) → Emits itself rows self.old self.new result
+            (integer_changed by.is_after by.op by.ty ty by.at line (located_view located) (change_view change) right) }
     {
         self.emit(
             by.at,
@@ -146,11 +140,9 @@ impl Emitter {
         change: Change,
         index: u16,
     ) -> Result<u16, LowerRefusal>
-        ensures {
-            Emits itself (rows_of at.entry) self.old self.new result
-                (pointer_changed is_after by.is_less (types_of at.entry by.pointer_type) (types_of at.entry by.index_type) by.at line
-                (located_view located) (change_view change) index)
-        }
+        ensures { Emits itself (rows_of at.entry) self.old self.new result
+            (pointer_changed is_after by.is_less (types_of at.entry by.pointer_type) (types_of at.entry by.index_type) by.at line
+            (located_view located) (change_view change) index) }
     {
         let moved = self.move_pointer(at, line, by, change.changed, index)?;
         self.end_change(is_after, line, located, change.old, moved)

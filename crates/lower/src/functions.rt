@@ -12,7 +12,7 @@ ghost use Rattle.c_types.specs.Types.{CType, result_of};
 ghost use Rattle.lower.specs.declared.refusal.LowerRefusal.TheVariants.{Memory};
 
 use crate::allotted::Allotted;
-use crate::body::{Body, close};
+use crate::body::Body;
 use crate::code::Code;
 use crate::emitter::Emitter;
 use crate::inside::{Inside, kind_of};
@@ -63,14 +63,14 @@ fn begin_parameter(at: Inside, body: &mut Body, number: usize) -> Result<(), Low
     }
 {
     let row = at.row(number);
-    if !row.is_placed {
-        return Ok(());
+    if row.is_placed {
+        let pointer = open(body, number, 1, row.line)?;
+        let Ok(source) = u16::try_from(number) else {
+            return Err(LowerRefusal::Memory);
+        };
+        return body.out.emit(row.line, Mid::Store { pointer, source });
     }
-    let pointer = open(body, number, 1, row.line)?;
-    let Ok(source) = u16::try_from(number) else {
-        return Err(LowerRefusal::Memory);
-    };
-    body.out.emit(row.line, Mid::Store { pointer, source })
+    Ok(())
 }
 
 /// The parameters begin, in order.
@@ -103,8 +103,7 @@ fn leave(at: Inside, body: &mut Body, line: u32) -> Result<(), LowerRefusal>
             (leaves_at line (result_of (types_of at.entry at.entry.function.now.ty)))
     }
 {
-    close(&mut body.out, &body.objects, line)?;
-    close(&mut body.out, &body.outside, line)?;
+    body.close_all(line)?;
     let result = at.types().result(at.function.ty);
     let source = body.out.null(at, result, 0, line)?;
     body.out.emit(line, Mid::Return { source })

@@ -37,12 +37,7 @@ impl Emitter {
     }
 
     /// A constant in a temporary.
-    pub(crate) fn constant(
-        &mut self,
-        value: u64,
-        k: usize,
-        line: u32,
-    ) -> Result<u16, LowerRefusal>
+    pub(crate) fn constant(&mut self, value: u64, k: usize, line: u32) -> Result<u16, LowerRefusal>
         ensures { (rows : List Row) → Emits itself rows self.old self.new result (constant_in line k value) }
     {
         let target = self.temporary(k, line)?;
@@ -74,10 +69,8 @@ impl Emitter {
         k: usize,
         line: u32,
     ) -> Result<u16, LowerRefusal>
-        ensures {
-            Emits itself (rows_of at.entry) self.old self.new result
-                (zero_for (types_of at.entry of) k line)
-        }
+        ensures { Emits itself (rows_of at.entry) self.old self.new result
+            (zero_for (types_of at.entry of) k line) }
     {
         let target = self.target_for(at, of, k, line)?;
         self.set(target, 0, line)
@@ -297,10 +290,8 @@ impl Emitter {
         left: u16,
         right: u16,
     ) -> Result<u16, LowerRefusal>
-        ensures {
-            Emits itself (rows_of inside.entry) self.old self.new result
-                (pointers_subtracted (types_of inside.entry of) line at k left right)
-        }
+        ensures { Emits itself (rows_of inside.entry) self.old self.new result
+            (pointers_subtracted (types_of inside.entry of) line at k left right) }
     {
         let scale = inside.scale(of)?;
         let target = self.temporary(k, line)?;
@@ -353,10 +344,8 @@ impl Emitter {
         left: u16,
         right: u16,
     ) -> Result<u16, LowerRefusal>
-        ensures {
-            Emits itself (rows_of inside.entry) self.old self.new result
-                (compared_by (types_of inside.entry of) op line at k left right)
-        }
+        ensures { Emits itself (rows_of inside.entry) self.old self.new result
+            (compared_by (types_of inside.entry of) op line at k left right) }
     {
         if inside.is_address(of) {
             self.compare_pointers(op, line, at, k, left, right)
@@ -394,10 +383,8 @@ impl Emitter {
         pointer: u16,
         index: u16,
     ) -> Result<u16, LowerRefusal>
-        ensures {
-            Emits itself (rows_of inside.entry) self.old self.new result
-                (pointer_moved line by.at by.is_less (types_of inside.entry by.pointer_type) (types_of inside.entry by.index_type) pointer index)
-        }
+        ensures { Emits itself (rows_of inside.entry) self.old self.new result
+            (pointer_moved line by.at by.is_less (types_of inside.entry by.pointer_type) (types_of inside.entry by.index_type) pointer index) }
     {
         let scale = inside.scale(by.pointer_type)?;
         let target = self.new_address(line)?;
@@ -425,10 +412,8 @@ impl Emitter {
         left: u16,
         right: u16,
     ) -> Result<u16, LowerRefusal>
-        ensures {
-            Emits itself (rows_of inside.entry) self.old self.new result
-                (moves_pointer line by.at by.is_less pointer_first (types_of inside.entry by.pointer_type) (types_of inside.entry by.index_type) left right)
-        }
+        ensures { Emits itself (rows_of inside.entry) self.old self.new result
+            (moves_pointer line by.at by.is_less pointer_first (types_of inside.entry by.pointer_type) (types_of inside.entry by.index_type) left right) }
     {
         if pointer_first {
             return self.move_pointer(inside, line, by, left, right);

@@ -42,10 +42,8 @@ impl Emitter {
         k: usize,
         located: Located,
     ) -> Result<u16, LowerRefusal>
-        ensures {
-            Emits itself (rows_of at.entry) self.old self.new result
-                (fetches line (types_of at.entry of) k (located_view located))
-        }
+        ensures { Emits itself (rows_of at.entry) self.old self.new result
+            (fetches line (types_of at.entry of) k (located_view located)) }
     {
         let target = self.target_for(at, of, k, line)?;
         let (told, mid) = load_of(located, line, target);

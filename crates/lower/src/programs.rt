@@ -67,9 +67,9 @@ pub fn lower(alloc: Global, program: &TypedProgram) -> Result<MidProgram, LowerR
     ensures { GivesProgram (lowered (program_view program.now)) result }
 {
     let mut functions = Vec::new(alloc);
-    let known = types_of_functions(alloc, program)?;
-    let known = lower_part(alloc, program, Part::Protected, known, &mut functions)?;
-    let known = lower_part(alloc, program, Part::Binary, known, &mut functions)?;
+    let first = types_of_functions(alloc, program)?;
+    let between = lower_part(alloc, program, Part::Protected, first, &mut functions)?;
+    let known = lower_part(alloc, program, Part::Binary, between, &mut functions)?;
     let Ok(main_functions) = u16::try_from(program.main_file.functions.len()) else {
         return Err(LowerRefusal::Memory);
     };

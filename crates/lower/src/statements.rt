@@ -6,7 +6,7 @@ ghost use Rattle.c_typed.specs.Statements.{no_items};
 ghost use Rattle.lower.specs.Nodes.{for_of};
 ghost use Rattle.c_typed.specs.StatementViews.{stmt_view, all_items as items_of, block_item_view, local_item_view};
 ghost use Rattle.source_meaning.specs.Statements.{locals_of, numbers_of};
-ghost use Rattle.lower.specs.Emitting.{jumped, wrapped, two_ways};
+ghost use Rattle.lower.specs.Emitting.{jumped, wrapped};
 ghost use Rattle.lower.specs.Statements.{lowers, lowers_items, in_block, looped, do_looped, looped_with};
 ghost use Rattle.lower.specs.Emits.{nothing, rows_of, types_of, inside_view};
 ghost use Rattle.lower.specs.Runs.{Runs};
@@ -45,7 +45,14 @@ pub(crate) fn statement(at: Inside, body: &mut Body, stmt: &Stmt) -> Result<(), 
             let test = value(at, &mut body.out, e, 0)?;
             match otherwise {
                 None => only_if(at, body, line, test, a.get()),
-                Some(b) => either_way(at, body, line, test, a.get(), b.get()),
+                Some(b) => {
+                    let waits = body.out.jump_from(line, false, test)?;
+                    statement(at, body, a.get())?;
+                    let over = body.out.turn(line, waits)?;
+                    statement(at, body, b.get())?;
+                    body.out.lead_here(over);
+                    Ok(())
+                }
             }
         }
         StmtNode::While(e, a) => rounds(at, body, line, Some(e), a.get(), None),
@@ -77,30 +84,6 @@ fn only_if(
     let waits = body.out.jump_from(line, false, test)?;
     statement(at, body, a)?;
     body.out.lead_here(waits);
-    Ok(())
-}
-
-/// `if` with `else`, behind its test.
-#[cycle(statement)]
-fn either_way(
-    at: Inside,
-    body: &mut Body,
-    line: u32,
-    test: u16,
-    a: &Stmt,
-    b: &Stmt,
-) -> Result<(), LowerRefusal>
-    ensures {
-        Runs nothing (rows_of at.entry) body.old body.new result
-            (two_ways line (mid_of.JumpZ test) (lowers (inside_view at.entry) (stmt_view (types_of at.entry) a.now))
-            (λ done. lowers (inside_view at.entry) (stmt_view (types_of at.entry) b.now)))
-    }
-{
-    let waits = body.out.jump_from(line, false, test)?;
-    statement(at, body, a)?;
-    let over = body.out.turn(line, waits)?;
-    statement(at, body, b)?;
-    body.out.lead_here(over);
     Ok(())
 }
 

@@ -1,4 +1,5 @@
 use Rattle.std.proofs.Common.{[], map, sym, ap, subst, List, ◌∙◌}
+use Rattle.std.proofs.lemmas.List.{nil_from_length}
 use Rattle.c_types.specs.declared.type_ref.TypeRef.{TypeRef}
 use Rattle.c_types.specs.Types.{CType}
 use Rattle.c_typed.specs.declared.program.Function.{Function}
@@ -13,7 +14,7 @@ pub returns : goal.returns
 returns c =
     let p = c.args.program.now in
     let rows = p.types in
-    let none = subst (λ (keys : List TypeRef). AreTypes rows keys []) (sym c.new-known.ensures.keys) (no-types rows) in
+    let none = subst (λ (keys : List TypeRef). AreTypes rows keys []) (sym (nil_from_length c.new-known.result.keys c.new-known.ensures.len)) (no-types rows) in
     let h = c.in_ok-add_types-2.ensures _ (c.in_ok-add_types.ensures [] none) in
     subst (λ (types : List CType). AreTypes rows c.add_types-2.new.known.keys types)
     ((λ i. all_types (all_types [] (map (function_view (type_at rows)) (c.as_slice.ensures i))) (map (function_view (type_at rows)) (c.as_slice-2.ensures i)))

@@ -12,5 +12,6 @@ use Rattle.lower.proofs.statements.+statement.Given as goal
 abbrev pub invariant-all_items-loop-item : goal.invariant-all_items-loop-item
 invariant-all_items-loop-item l =
     (final : Body) (r : Result ⊤ LowerRefusal)
-    → Runs nothing (rows_of l.at) l.body final r (lowers_items (inside_view l.at) (items_of (map (block_item_view (types_of l.at)) (drop l.item-index l.items))))
+    → Runs nothing (rows_of l.at) l.body final r
+        (lowers_items (inside_view l.at) (items_of (map (block_item_view (types_of l.at)) (drop l.item-index l.items))))
     → Runs nothing (rows_of l.at) l.initial.body final r (lowers_items (inside_view l.at) (items_of (map (block_item_view (types_of l.at)) l.items)))

@@ -1,12 +1,18 @@
-use Rattle.std.proofs.Common.{rules, Err, refl, sym, ◌∙◌, ap}
+use Rattle.std.proofs.Common.{Err, refl, sym, ◌∙◌, ap, rules, ◌≡◌, ℕ, List, map, ◌+◌, ◌-◌, ◌*◌, ◌<◌, ◌≤◌, length, ◌/◌, ◌%◌, suc, if◌then◌else◌, Bool, true, false, nat_eq, nat_lt, [], ◌∷◌, ◌++◌, slice_index_or, slice_set, bit_and, bit_or, Fits, w8, w32, w64, Bor, MutBor}
 use Rattle.mid_code.specs.Registers.{registers_list}
-use Rattle.lower.specs.Emits.{rows_of, types_of, inside_view}
+use Rattle.lower.specs.Emits.{rows_of, types_of, inside_view, Emits, itself, nothing, located_view, change_view}
 use Rattle.lower.proofs.Steps.{exits, memory, step, stop, given, same-making}
 use Rattle.lower.proofs.Deciding.{operand-refused, test-refused, decided, first-operand-refused, first-join-refused, second-operand-refused, second-join-refused, chose}
-use Rattle.lower.proofs.Operands.{value-at, address-at, location-at}
+use Rattle.lower.proofs.Operands.{operand-at, address-at, location-at}
 use Rattle.lower.proofs.Rows.{local-row, static-row, text-row, pointed-row, element-row, register-row, memory-row, constant-row, null-row, function-row, read-row, first_element-row, address-row, minus-row, complement-row, negation-row, arithmetic-row, sum-row, difference-row, comparison-row, conjunction-row, disjunction-row, choice-row, sequence-row, assignment-row, update-row, move-row, conversion-row, to_bool-row, requalified-row, discarded-row, call-row, call_through-row, putchar-row, getchar-row, exit-row}
 use Rattle.lower.proofs.ValueLists.{has-room, values-begin, values-next, values-refused, values-end, drops-begin, drops-next, drops-refused, drops-end}
+use Rattle.c_typed.specs.Views.{value_view, place_view, values_from}
+use Rattle.lower.specs.Expressions.{value_of, address_of, location_of, values_in, dropped_in, decides, chosen, updated, repointed, moved_by}
+use Rattle.c_types.specs.Types.{ty_of}
+use Rattle.lower.proofs.Changing.{free-after, free-before, widened-at, value-at, changed-at}
+use Rattle.lower.proofs.values.+value.Goals.{update-then-by+in_ok-behind+in_ok-free, update-else-by+in_ok-free-2}
 use Rattle.lower.proofs.values.+value.Goals as goal
+use Rattle.mid_code.specs.declared.mid.Mid.TheVariants as mid_of
 
 pub choose-returns-in_err-waits : goal.choose-returns-in_err-waits
 choose-returns-in_err-waits t c = memory (exits c.from_residual.result _ c.from_residual.ensures.1 ∙ ap Err c.in_err-waits.ensures)
@@ -78,7 +84,7 @@ address-returns-in_ok-number_of_text-in-Text t c =
 
 pub address-returns-in-Pointed : goal.address-returns-in-Pointed
 address-returns-in-Pointed t c =
-    same-making (pointed-row (inside_view c.args.at) (types_of c.args.at) c.args.place.now _ c.args.k c.in-Pointed.is) (value-at (inside_view c.args.at)
+    same-making (pointed-row (inside_view c.args.at) (types_of c.args.at) c.args.place.now _ c.args.k c.in-Pointed.is) (operand-at (inside_view c.args.at)
     (types_of c.args.at) _ c.get.ensures c.value.ensures)
 
 pub arguments-loop-e-init : goal.arguments-loop-e-init
@@ -111,16 +117,15 @@ arguments-returns t c =
     c.loop-e.e-index c.loop-e.free c.loop-e.found c.loop-e-test.false c.loop-e.invariant
 
 pub change_pointer-returns-in_err-change : goal.change_pointer-returns-in_err-change
-change_pointer-returns-in_err-change t c = ?
+change_pointer-returns-in_err-change t c = stop _ refl (exits c.from_residual.result _ c.from_residual.ensures.1) c.in_err-change.ensures
 
 pub change_pointer-returns-in_err-index : goal.change_pointer-returns-in_err-index
-change_pointer-returns-in_err-index t c = ?
+change_pointer-returns-in_err-index t c =
+    step _ refl c.in_ok-change.ensures
+    (stop _ refl (exits c.from_residual-in_err-index.result _ c.from_residual-in_err-index.ensures.1) c.in_err-index.ensures)
 
 pub change_pointer-returns : goal.change_pointer-returns
-change_pointer-returns t c = ?
-
-pub choose-value-requires-2 : goal.choose-value-requires-2
-choose-value-requires-2 t c = search rules
+change_pointer-returns t c = step _ refl c.in_ok-change.ensures (step _ refl c.in_ok-index.ensures c.end_move.ensures)
 
 pub drop_all-loop-e-init : goal.drop_all-loop-e-init
 drop_all-loop-e-init t c = drops-begin (inside_view c.args.at) (types_of c.args.at) (rows_of c.args.at) c.as_slice-e-items.result.now c.args.k _
@@ -157,25 +162,56 @@ location-returns-in_ok-pointer-in-Memory t c =
     c.in_ok-pointer-in-Memory.ensures given
 
 pub update-returns-in_err-begun : goal.update-returns-in_err-begun
-update-returns-in_err-begun t c = ?
+update-returns-in_err-begun t c = stop _ refl (exits c.from_residual.result _ c.from_residual.ensures.1) c.in_err-begun.ensures
 
 pub update-returns-in_err-change : goal.update-returns-in_err-change
-update-returns-in_err-change t c = ?
+update-returns-in_err-change t c =
+    step _ refl c.in_ok-begun.ensures (stop _ refl (exits c.from_residual-in_err-change.result _ c.from_residual-in_err-change.ensures.1)
+    (widened-at c.args.by.first c.ty.result (ty_of (types_of c.args.at c.args.of)) c.args.by.ty (change_view c.in_ok-begun.begun) c.ty.ensures
+    (c.in_err-change.ensures _)))
 
 pub update-returns-in_err-behind : goal.update-returns-in_err-behind
-update-returns-in_err-behind t c = ?
+update-returns-in_err-behind t c =
+    memory (exits c.from_residual-in_err-behind.result _ c.from_residual-in_err-behind.ensures.1 ∙ ap Err c.in_err-behind.ensures.memory)
 
 pub update-returns-in_err-free : goal.update-returns-in_err-free
-update-returns-in_err-free t c = ?
+update-returns-in_err-free t c =
+    memory (exits c.from_residual-in_err-free.result _ c.from_residual-in_err-free.ensures.1 ∙ ap Err c.in_err-free.ensures.memory)
 
 pub update-returns-in_err-free-2 : goal.update-returns-in_err-free-2
-update-returns-in_err-free-2 t c = ?
+update-returns-in_err-free-2 t c =
+    memory (exits c.from_residual-in_err-free-2.result _ c.from_residual-in_err-free-2.ensures.1 ∙ ap Err c.in_err-free-2.ensures.memory)
 
 pub update-returns-in_err-right : goal.update-returns-in_err-right
-update-returns-in_err-right t c = ?
+update-returns-in_err-right t c =
+    step _ refl c.in_ok-begun.ensures (step _ refl
+    (widened-at c.args.by.first c.ty.result (ty_of (types_of c.args.at c.args.of)) c.args.by.ty (change_view c.in_ok-begun.begun) c.ty.ensures
+    (c.in_ok-change.ensures _))
+    (stop _ refl (exits c.from_residual-in_err-right.result _ c.from_residual-in_err-right.ensures.1)
+    (value-at (inside_view c.args.at) (value_view (types_of c.args.at) c.args.e.now) c.if-by.free _ free-is c.in_err-right.ensures)))
+  where
+    free-is : c.if-by.free ≡ (if c.args.by.is_after then suc (suc c.args.k) else suc c.args.k)
+    free-is =
+        elim c.if-by.branch [
+          | update-then-by+in_ok-behind+in_ok-free w ↦ free-after _ _ _ _ _ w.if-by.true w.in_ok-behind.ensures.next w.in_ok-free.ensures.next w.free-is
+          | update-else-by+in_ok-free-2 w ↦ free-before _ _ _ _ w.if-by.false w.in_ok-free-2.ensures.next w.free-is
+        ]
 
 pub update-returns : goal.update-returns
-update-returns t c = ?
+update-returns t c =
+    step _ refl c.in_ok-begun.ensures (step _ refl
+    (widened-at c.args.by.first c.ty.result (ty_of (types_of c.args.at c.args.of)) c.args.by.ty (change_view c.in_ok-begun.begun) c.ty.ensures
+    (c.in_ok-change.ensures _))
+    (step _ refl (value-at (inside_view c.args.at) (value_view (types_of c.args.at) c.args.e.now) c.if-by.free _ free-is c.in_ok-right.ensures)
+    (changed-at c.args.by.is_after c.args.by.op c.args.by.ty c.ty-2.result (ty_of (types_of c.args.at c.args.of)) c.args.by.at c.args.line
+    (located_view c.args.located) (change_view c.in_ok-change.change) c.in_ok-right.right c.ty-2.ensures (c.end_update.ensures _))))
+  where
+    free-is : c.if-by.free ≡ (if c.args.by.is_after then suc (suc c.args.k) else suc c.args.k)
+    free-is =
+        elim c.if-by.branch [
+          | update-then-by+in_ok-behind+in_ok-free w ↦ free-after _ _ _ _ _ w.if-by.true w.in_ok-behind.ensures.next w.in_ok-free.ensures.next w.free-is
+          | update-else-by+in_ok-free-2 w ↦ free-before _ _ _ _ w.if-by.false w.in_ok-free-2.ensures.next w.free-is
+        ]
 
 pub value-returns-in_err-function_number-in-Function : goal.value-returns-in_err-function_number-in-Function
 value-returns-in_err-function_number-in-Function t c =
@@ -190,25 +226,25 @@ value-returns-in_err-located-in-Read t c =
 pub value-returns-in_err-operand-in-Minus : goal.value-returns-in_err-operand-in-Minus
 value-returns-in_err-operand-in-Minus t c =
     stop _ (minus-row (inside_view c.args.at) (types_of c.args.at) c.args.value.now _ _ _ c.args.k c.in-Minus.is refl refl) (exits
-    c.from_residual-in_err-operand-in-Minus.result _ c.from_residual-in_err-operand-in-Minus.ensures.1) (value-at (inside_view c.args.at) (types_of
+    c.from_residual-in_err-operand-in-Minus.result _ c.from_residual-in_err-operand-in-Minus.ensures.1) (operand-at (inside_view c.args.at) (types_of
     c.args.at) _ c.get-in-Minus.ensures c.in_err-operand-in-Minus.ensures)
 
 pub value-returns-in_err-operand-in-Complement : goal.value-returns-in_err-operand-in-Complement
 value-returns-in_err-operand-in-Complement t c =
     stop _ (complement-row (inside_view c.args.at) (types_of c.args.at) c.args.value.now _ _ _ c.args.k c.in-Complement.is refl refl) (exits
-    c.from_residual-in_err-operand-in-Complement.result _ c.from_residual-in_err-operand-in-Complement.ensures.1) (value-at (inside_view c.args.at)
+    c.from_residual-in_err-operand-in-Complement.result _ c.from_residual-in_err-operand-in-Complement.ensures.1) (operand-at (inside_view c.args.at)
     (types_of c.args.at) _ c.get-in-Complement.ensures c.in_err-operand-in-Complement.ensures)
 
 pub value-returns-in_err-operand-in-Negation : goal.value-returns-in_err-operand-in-Negation
 value-returns-in_err-operand-in-Negation t c =
     stop _ (negation-row (inside_view c.args.at) (types_of c.args.at) c.args.value.now _ _ c.args.k c.in-Negation.is refl) (exits
-    c.from_residual-in_err-operand-in-Negation.result _ c.from_residual-in_err-operand-in-Negation.ensures.1) (value-at (inside_view c.args.at) (types_of
+    c.from_residual-in_err-operand-in-Negation.result _ c.from_residual-in_err-operand-in-Negation.ensures.1) (operand-at (inside_view c.args.at) (types_of
     c.args.at) _ c.get-in-Negation.ensures c.in_err-operand-in-Negation.ensures)
 
 pub value-returns-in_err-left-in-Arithmetic : goal.value-returns-in_err-left-in-Arithmetic
 value-returns-in_err-left-in-Arithmetic t c =
     stop _ (arithmetic-row (inside_view c.args.at) (types_of c.args.at) c.args.value.now _ _ _ _ _ _ c.args.k _ c.in-Arithmetic.is refl refl refl) (exits
-    c.from_residual-in_err-left-in-Arithmetic.result _ c.from_residual-in_err-left-in-Arithmetic.ensures.1) (value-at (inside_view c.args.at) (types_of
+    c.from_residual-in_err-left-in-Arithmetic.result _ c.from_residual-in_err-left-in-Arithmetic.ensures.1) (operand-at (inside_view c.args.at) (types_of
     c.args.at) _ c.get-in-Arithmetic.ensures c.in_err-left-in-Arithmetic.ensures)
 
 pub value-returns-in_err-behind-in-Arithmetic : goal.value-returns-in_err-behind-in-Arithmetic
@@ -219,28 +255,28 @@ value-returns-in_err-behind-in-Arithmetic t c =
 pub value-returns-in_err-right-in-Arithmetic : goal.value-returns-in_err-right-in-Arithmetic
 value-returns-in_err-right-in-Arithmetic t c =
     step _ (arithmetic-row (inside_view c.args.at) (types_of c.args.at) c.args.value.now _ _ _ _ _ _ c.args.k _ c.in-Arithmetic.is refl refl
-    c.in_ok-behind-in-Arithmetic.ensures.next) (value-at (inside_view c.args.at) (types_of c.args.at) _ c.get-in-Arithmetic.ensures
+    c.in_ok-behind-in-Arithmetic.ensures.next) (operand-at (inside_view c.args.at) (types_of c.args.at) _ c.get-in-Arithmetic.ensures
     c.in_ok-left-in-Arithmetic.ensures) (stop _ refl (exits c.from_residual-in_err-right-in-Arithmetic.result _
-    c.from_residual-in_err-right-in-Arithmetic.ensures.1) (value-at (inside_view c.args.at) (types_of c.args.at) _ c.get-in-Arithmetic-2.ensures
+    c.from_residual-in_err-right-in-Arithmetic.ensures.1) (operand-at (inside_view c.args.at) (types_of c.args.at) _ c.get-in-Arithmetic-2.ensures
     c.in_err-right-in-Arithmetic.ensures))
 
 pub value-returns-in_err-left-in-Difference : goal.value-returns-in_err-left-in-Difference
 value-returns-in_err-left-in-Difference t c =
     stop _ (difference-row (inside_view c.args.at) (types_of c.args.at) c.args.value.now _ _ _ _ c.args.k c.in-Difference.is refl) (exits
-    c.from_residual-in_err-left-in-Difference.result _ c.from_residual-in_err-left-in-Difference.ensures.1) (value-at (inside_view c.args.at) (types_of
+    c.from_residual-in_err-left-in-Difference.result _ c.from_residual-in_err-left-in-Difference.ensures.1) (operand-at (inside_view c.args.at) (types_of
     c.args.at) _ c.get-in-Difference.ensures c.in_err-left-in-Difference.ensures)
 
 pub value-returns-in_err-right-in-Difference : goal.value-returns-in_err-right-in-Difference
 value-returns-in_err-right-in-Difference t c =
-    step _ (difference-row (inside_view c.args.at) (types_of c.args.at) c.args.value.now _ _ _ _ c.args.k c.in-Difference.is refl) (value-at (inside_view
+    step _ (difference-row (inside_view c.args.at) (types_of c.args.at) c.args.value.now _ _ _ _ c.args.k c.in-Difference.is refl) (operand-at (inside_view
     c.args.at) (types_of c.args.at) _ c.get-in-Difference.ensures c.in_ok-left-in-Difference.ensures) (stop _ refl (exits
-    c.from_residual-in_err-right-in-Difference.result _ c.from_residual-in_err-right-in-Difference.ensures.1) (value-at (inside_view c.args.at) (types_of
+    c.from_residual-in_err-right-in-Difference.result _ c.from_residual-in_err-right-in-Difference.ensures.1) (operand-at (inside_view c.args.at) (types_of
     c.args.at) _ c.get-in-Difference-2.ensures c.in_err-right-in-Difference.ensures))
 
 pub value-returns-in_err-left-in-Comparison : goal.value-returns-in_err-left-in-Comparison
 value-returns-in_err-left-in-Comparison t c =
     stop _ (comparison-row (inside_view c.args.at) (types_of c.args.at) c.args.value.now _ _ _ _ _ _ c.args.k _ c.in-Comparison.is refl refl refl) (exits
-    c.from_residual-in_err-left-in-Comparison.result _ c.from_residual-in_err-left-in-Comparison.ensures.1) (value-at (inside_view c.args.at) (types_of
+    c.from_residual-in_err-left-in-Comparison.result _ c.from_residual-in_err-left-in-Comparison.ensures.1) (operand-at (inside_view c.args.at) (types_of
     c.args.at) _ c.get-in-Comparison.ensures c.in_err-left-in-Comparison.ensures)
 
 pub value-returns-in_err-free_behind-in-Comparison : goal.value-returns-in_err-free_behind-in-Comparison
@@ -251,27 +287,27 @@ value-returns-in_err-free_behind-in-Comparison t c =
 pub value-returns-in_err-right-in-Comparison : goal.value-returns-in_err-right-in-Comparison
 value-returns-in_err-right-in-Comparison t c =
     step _ (comparison-row (inside_view c.args.at) (types_of c.args.at) c.args.value.now _ _ _ _ _ _ c.args.k _ c.in-Comparison.is refl
-    c.get-in-Comparison-3.ensures c.in_ok-free_behind-in-Comparison.ensures.next) (value-at (inside_view c.args.at) (types_of c.args.at) _
+    c.get-in-Comparison-3.ensures c.in_ok-free_behind-in-Comparison.ensures.next) (operand-at (inside_view c.args.at) (types_of c.args.at) _
     c.get-in-Comparison.ensures c.in_ok-left-in-Comparison.ensures) (stop _ refl (exits c.from_residual-in_err-right-in-Comparison.result _
-    c.from_residual-in_err-right-in-Comparison.ensures.1) (value-at (inside_view c.args.at) (types_of c.args.at) _ c.get-in-Comparison-2.ensures
+    c.from_residual-in_err-right-in-Comparison.ensures.1) (operand-at (inside_view c.args.at) (types_of c.args.at) _ c.get-in-Comparison-2.ensures
     c.in_err-right-in-Comparison.ensures))
 
 pub value-returns-in_err-first-in-Conjunction : goal.value-returns-in_err-first-in-Conjunction
 value-returns-in_err-first-in-Conjunction t c =
     stop _ (conjunction-row (inside_view c.args.at) (types_of c.args.at) c.args.value.now _ _ _ c.args.k c.in-Conjunction.is refl) (exits
-    c.from_residual-in_err-first-in-Conjunction.result _ c.from_residual-in_err-first-in-Conjunction.ensures.1) (value-at (inside_view c.args.at) (types_of
+    c.from_residual-in_err-first-in-Conjunction.result _ c.from_residual-in_err-first-in-Conjunction.ensures.1) (operand-at (inside_view c.args.at) (types_of
     c.args.at) _ c.get-in-Conjunction.ensures c.in_err-first-in-Conjunction.ensures)
 
 pub value-returns-in_err-first-in-Disjunction : goal.value-returns-in_err-first-in-Disjunction
 value-returns-in_err-first-in-Disjunction t c =
     stop _ (disjunction-row (inside_view c.args.at) (types_of c.args.at) c.args.value.now _ _ _ c.args.k c.in-Disjunction.is refl) (exits
-    c.from_residual-in_err-first-in-Disjunction.result _ c.from_residual-in_err-first-in-Disjunction.ensures.1) (value-at (inside_view c.args.at) (types_of
+    c.from_residual-in_err-first-in-Disjunction.result _ c.from_residual-in_err-first-in-Disjunction.ensures.1) (operand-at (inside_view c.args.at) (types_of
     c.args.at) _ c.get-in-Disjunction.ensures c.in_err-first-in-Disjunction.ensures)
 
 pub value-returns-in_err-test-in-Choice : goal.value-returns-in_err-test-in-Choice
 value-returns-in_err-test-in-Choice t c =
     stop _ (choice-row (inside_view c.args.at) (types_of c.args.at) c.args.value.now _ _ _ _ _ c.args.k c.in-Choice.is refl refl) (exits
-    c.from_residual-in_err-test-in-Choice.result _ c.from_residual-in_err-test-in-Choice.ensures.1) (value-at (inside_view c.args.at) (types_of c.args.at)
+    c.from_residual-in_err-test-in-Choice.result _ c.from_residual-in_err-test-in-Choice.ensures.1) (operand-at (inside_view c.args.at) (types_of c.args.at)
     _ c.get-in-Choice.ensures c.in_err-test-in-Choice.ensures)
 
 pub value-returns-in_err-drop_all-in-Sequence : goal.value-returns-in_err-drop_all-in-Sequence
@@ -289,7 +325,7 @@ pub value-returns-in_err-source-in-Assignment : goal.value-returns-in_err-source
 value-returns-in_err-source-in-Assignment t c =
     step _ (assignment-row (inside_view c.args.at) (types_of c.args.at) c.args.value.now _ _ c.args.k c.in-Assignment.is) (location-at (inside_view
     c.args.at) (types_of c.args.at) _ c.get-in-Assignment.ensures c.in_ok-located-in-Assignment.ensures) (stop _ refl (exits
-    c.from_residual-in_err-source-in-Assignment.result _ c.from_residual-in_err-source-in-Assignment.ensures.1) (value-at (inside_view c.args.at) (types_of
+    c.from_residual-in_err-source-in-Assignment.result _ c.from_residual-in_err-source-in-Assignment.ensures.1) (operand-at (inside_view c.args.at) (types_of
     c.args.at) _ c.get-in-Assignment-2.ensures c.in_err-source-in-Assignment.ensures))
 
 pub value-returns-in_err-located-in-Update : goal.value-returns-in_err-located-in-Update
@@ -307,13 +343,13 @@ value-returns-in_err-located-in-Move t c =
 pub value-returns-in_err-operand-in-Conversion : goal.value-returns-in_err-operand-in-Conversion
 value-returns-in_err-operand-in-Conversion t c =
     stop _ (conversion-row (inside_view c.args.at) (types_of c.args.at) c.args.value.now _ _ _ _ _ c.args.k c.in-Conversion.is refl refl refl) (exits
-    c.from_residual-in_err-operand-in-Conversion.result _ c.from_residual-in_err-operand-in-Conversion.ensures.1) (value-at (inside_view c.args.at)
+    c.from_residual-in_err-operand-in-Conversion.result _ c.from_residual-in_err-operand-in-Conversion.ensures.1) (operand-at (inside_view c.args.at)
     (types_of c.args.at) _ c.get-in-Conversion.ensures c.in_err-operand-in-Conversion.ensures)
 
 pub value-returns-in_err-operand-in-ToBool : goal.value-returns-in_err-operand-in-ToBool
 value-returns-in_err-operand-in-ToBool t c =
     stop _ (to_bool-row (inside_view c.args.at) (types_of c.args.at) c.args.value.now _ _ _ c.args.k c.in-ToBool.is refl) (exits
-    c.from_residual-in_err-operand-in-ToBool.result _ c.from_residual-in_err-operand-in-ToBool.ensures.1) (value-at (inside_view c.args.at) (types_of
+    c.from_residual-in_err-operand-in-ToBool.result _ c.from_residual-in_err-operand-in-ToBool.ensures.1) (operand-at (inside_view c.args.at) (types_of
     c.args.at) _ c.get-in-ToBool.ensures c.in_err-operand-in-ToBool.ensures)
 
 pub value-returns-in_err-args-in-Call : goal.value-returns-in_err-args-in-Call
@@ -329,7 +365,7 @@ value-returns-in_err-function_number-in-Call t c =
 pub value-returns-in_err-callee-in-CallThrough : goal.value-returns-in_err-callee-in-CallThrough
 value-returns-in_err-callee-in-CallThrough t c =
     stop _ (call_through-row (inside_view c.args.at) (types_of c.args.at) c.args.value.now _ _ _ _ c.args.k _ c.in-CallThrough.is refl refl) (exits
-    c.from_residual-in_err-callee-in-CallThrough.result _ c.from_residual-in_err-callee-in-CallThrough.ensures.1) (value-at (inside_view c.args.at)
+    c.from_residual-in_err-callee-in-CallThrough.result _ c.from_residual-in_err-callee-in-CallThrough.ensures.1) (operand-at (inside_view c.args.at)
     (types_of c.args.at) _ c.get-in-CallThrough.ensures c.in_err-callee-in-CallThrough.ensures)
 
 pub value-returns-in_err-behind-in-CallThrough : goal.value-returns-in_err-behind-in-CallThrough
@@ -340,20 +376,20 @@ value-returns-in_err-behind-in-CallThrough t c =
 pub value-returns-in_err-args-in-CallThrough : goal.value-returns-in_err-args-in-CallThrough
 value-returns-in_err-args-in-CallThrough t c =
     step _ (call_through-row (inside_view c.args.at) (types_of c.args.at) c.args.value.now _ _ _ _ c.args.k _ c.in-CallThrough.is refl
-    c.in_ok-behind-in-CallThrough.ensures.next) (value-at (inside_view c.args.at) (types_of c.args.at) _ c.get-in-CallThrough.ensures
+    c.in_ok-behind-in-CallThrough.ensures.next) (operand-at (inside_view c.args.at) (types_of c.args.at) _ c.get-in-CallThrough.ensures
     c.in_ok-callee-in-CallThrough.ensures) (stop _ refl (exits c.from_residual-in_err-args-in-CallThrough.result _
     c.from_residual-in_err-args-in-CallThrough.ensures.1) c.in_err-args-in-CallThrough.ensures)
 
 pub value-returns-in_err-operand-in-Putchar : goal.value-returns-in_err-operand-in-Putchar
 value-returns-in_err-operand-in-Putchar t c =
     stop _ (putchar-row (inside_view c.args.at) (types_of c.args.at) c.args.value.now _ _ c.args.k c.in-Putchar.is) (exits
-    c.from_residual-in_err-operand-in-Putchar.result _ c.from_residual-in_err-operand-in-Putchar.ensures.1) (value-at (inside_view c.args.at) (types_of
+    c.from_residual-in_err-operand-in-Putchar.result _ c.from_residual-in_err-operand-in-Putchar.ensures.1) (operand-at (inside_view c.args.at) (types_of
     c.args.at) _ c.get-in-Putchar.ensures c.in_err-operand-in-Putchar.ensures)
 
 pub value-returns-in_err-operand-in-Exit : goal.value-returns-in_err-operand-in-Exit
 value-returns-in_err-operand-in-Exit t c =
     stop _ (exit-row (inside_view c.args.at) (types_of c.args.at) c.args.value.now _ _ c.args.k c.in-Exit.is) (exits
-    c.from_residual-in_err-operand-in-Exit.result _ c.from_residual-in_err-operand-in-Exit.ensures.1) (value-at (inside_view c.args.at) (types_of
+    c.from_residual-in_err-operand-in-Exit.result _ c.from_residual-in_err-operand-in-Exit.ensures.1) (operand-at (inside_view c.args.at) (types_of
     c.args.at) _ c.get-in-Exit.ensures c.in_err-operand-in-Exit.ensures)
 
 pub value-returns-in-Constant : goal.value-returns-in-Constant
@@ -387,66 +423,66 @@ value-returns-in-Address t c =
 pub value-returns-in_ok-operand-in-Minus : goal.value-returns-in_ok-operand-in-Minus
 value-returns-in_ok-operand-in-Minus t c =
     step _ (minus-row (inside_view c.args.at) (types_of c.args.at) c.args.value.now _ _ _ c.args.k c.in-Minus.is c.get-in-Minus-2.ensures c.ty.ensures)
-    (value-at (inside_view c.args.at) (types_of c.args.at) _ c.get-in-Minus.ensures c.in_ok-operand-in-Minus.ensures) (c.minus.ensures (rows_of c.args.at))
+    (operand-at (inside_view c.args.at) (types_of c.args.at) _ c.get-in-Minus.ensures c.in_ok-operand-in-Minus.ensures) (c.minus.ensures (rows_of c.args.at))
 
 pub value-returns-in_ok-operand-in-Complement : goal.value-returns-in_ok-operand-in-Complement
 value-returns-in_ok-operand-in-Complement t c =
     step _ (complement-row (inside_view c.args.at) (types_of c.args.at) c.args.value.now _ _ _ c.args.k c.in-Complement.is c.get-in-Complement-2.ensures
-    c.ty-in-Complement.ensures) (value-at (inside_view c.args.at) (types_of c.args.at) _ c.get-in-Complement.ensures c.in_ok-operand-in-Complement.ensures)
+    c.ty-in-Complement.ensures) (operand-at (inside_view c.args.at) (types_of c.args.at) _ c.get-in-Complement.ensures c.in_ok-operand-in-Complement.ensures)
     (c.complement.ensures (rows_of c.args.at))
 
 pub value-returns-in_ok-operand-in-Negation : goal.value-returns-in_ok-operand-in-Negation
 value-returns-in_ok-operand-in-Negation t c =
-    step _ (negation-row (inside_view c.args.at) (types_of c.args.at) c.args.value.now _ _ c.args.k c.in-Negation.is c.get-in-Negation-2.ensures) (value-at
+    step _ (negation-row (inside_view c.args.at) (types_of c.args.at) c.args.value.now _ _ c.args.k c.in-Negation.is c.get-in-Negation-2.ensures) (operand-at
     (inside_view c.args.at) (types_of c.args.at) _ c.get-in-Negation.ensures c.in_ok-operand-in-Negation.ensures) c.negate.ensures
 
 pub value-returns-in_ok-right-in-Arithmetic : goal.value-returns-in_ok-right-in-Arithmetic
 value-returns-in_ok-right-in-Arithmetic t c =
     step _ (arithmetic-row (inside_view c.args.at) (types_of c.args.at) c.args.value.now _ _ _ _ _ _ c.args.k _ c.in-Arithmetic.is
-    c.get-in-Arithmetic-3.ensures c.ty-in-Arithmetic.ensures c.in_ok-behind-in-Arithmetic.ensures.next) (value-at (inside_view c.args.at) (types_of
-    c.args.at) _ c.get-in-Arithmetic.ensures c.in_ok-left-in-Arithmetic.ensures) (step _ refl (value-at (inside_view c.args.at) (types_of c.args.at) _
+    c.get-in-Arithmetic-3.ensures c.ty-in-Arithmetic.ensures c.in_ok-behind-in-Arithmetic.ensures.next) (operand-at (inside_view c.args.at) (types_of
+    c.args.at) _ c.get-in-Arithmetic.ensures c.in_ok-left-in-Arithmetic.ensures) (step _ refl (operand-at (inside_view c.args.at) (types_of c.args.at) _
     c.get-in-Arithmetic-2.ensures c.in_ok-right-in-Arithmetic.ensures) (c.compute.ensures (rows_of c.args.at)))
 
 pub value-returns-in_ok-right-in-Difference : goal.value-returns-in_ok-right-in-Difference
 value-returns-in_ok-right-in-Difference t c =
     step _ (difference-row (inside_view c.args.at) (types_of c.args.at) c.args.value.now _ _ _ _ c.args.k c.in-Difference.is c.get-in-Difference-3.ensures)
-    (value-at (inside_view c.args.at) (types_of c.args.at) _ c.get-in-Difference.ensures c.in_ok-left-in-Difference.ensures) (step _ refl (value-at
+    (operand-at (inside_view c.args.at) (types_of c.args.at) _ c.get-in-Difference.ensures c.in_ok-left-in-Difference.ensures) (step _ refl (operand-at
     (inside_view c.args.at) (types_of c.args.at) _ c.get-in-Difference-2.ensures c.in_ok-right-in-Difference.ensures) c.subtract_pointers.ensures)
 
 pub value-returns-in_ok-right-in-Comparison : goal.value-returns-in_ok-right-in-Comparison
 value-returns-in_ok-right-in-Comparison t c =
     step _ (comparison-row (inside_view c.args.at) (types_of c.args.at) c.args.value.now _ _ _ _ _ _ c.args.k _ c.in-Comparison.is
-    c.get-in-Comparison-4.ensures c.get-in-Comparison-3.ensures c.in_ok-free_behind-in-Comparison.ensures.next) (value-at (inside_view c.args.at) (types_of
-    c.args.at) _ c.get-in-Comparison.ensures c.in_ok-left-in-Comparison.ensures) (step _ refl (value-at (inside_view c.args.at) (types_of c.args.at) _
+    c.get-in-Comparison-4.ensures c.get-in-Comparison-3.ensures c.in_ok-free_behind-in-Comparison.ensures.next) (operand-at (inside_view c.args.at) (types_of
+    c.args.at) _ c.get-in-Comparison.ensures c.in_ok-left-in-Comparison.ensures) (step _ refl (operand-at (inside_view c.args.at) (types_of c.args.at) _
     c.get-in-Comparison-2.ensures c.in_ok-right-in-Comparison.ensures) c.compare.ensures)
 
 pub value-returns-in_ok-first-in-Conjunction : goal.value-returns-in_ok-first-in-Conjunction
 value-returns-in_ok-first-in-Conjunction t c =
     step _ (conjunction-row (inside_view c.args.at) (types_of c.args.at) c.args.value.now _ _ _ c.args.k c.in-Conjunction.is
-    c.get-in-Conjunction-2.ensures) (value-at (inside_view c.args.at) (types_of c.args.at) _ c.get-in-Conjunction.ensures
+    c.get-in-Conjunction-2.ensures) (operand-at (inside_view c.args.at) (types_of c.args.at) _ c.get-in-Conjunction.ensures
     c.in_ok-first-in-Conjunction.ensures) c.decide.ensures
 
 pub value-returns-in_ok-first-in-Disjunction : goal.value-returns-in_ok-first-in-Disjunction
 value-returns-in_ok-first-in-Disjunction t c =
     step _ (disjunction-row (inside_view c.args.at) (types_of c.args.at) c.args.value.now _ _ _ c.args.k c.in-Disjunction.is
-    c.get-in-Disjunction-2.ensures) (value-at (inside_view c.args.at) (types_of c.args.at) _ c.get-in-Disjunction.ensures
+    c.get-in-Disjunction-2.ensures) (operand-at (inside_view c.args.at) (types_of c.args.at) _ c.get-in-Disjunction.ensures
     c.in_ok-first-in-Disjunction.ensures) c.decide-in-Disjunction.ensures
 
 pub value-returns-in_ok-test-in-Choice : goal.value-returns-in_ok-test-in-Choice
 value-returns-in_ok-test-in-Choice t c =
     step _ (choice-row (inside_view c.args.at) (types_of c.args.at) c.args.value.now _ _ _ _ _ c.args.k c.in-Choice.is c.get-in-Choice-2.ensures
-    c.get-in-Choice-3.ensures) (value-at (inside_view c.args.at) (types_of c.args.at) _ c.get-in-Choice.ensures c.in_ok-test-in-Choice.ensures)
+    c.get-in-Choice-3.ensures) (operand-at (inside_view c.args.at) (types_of c.args.at) _ c.get-in-Choice.ensures c.in_ok-test-in-Choice.ensures)
     c.choose.ensures
 
 pub value-returns-in_ok-drop_all-in-Sequence : goal.value-returns-in_ok-drop_all-in-Sequence
 value-returns-in_ok-drop_all-in-Sequence t c =
     step _ (sequence-row (inside_view c.args.at) (types_of c.args.at) c.args.value.now _ _ c.args.k c.in-Sequence.is) c.in_ok-drop_all-in-Sequence.ensures
-    (value-at (inside_view c.args.at) (types_of c.args.at) _ c.get-in-Sequence.ensures c.value-in-Sequence.ensures)
+    (operand-at (inside_view c.args.at) (types_of c.args.at) _ c.get-in-Sequence.ensures c.value-in-Sequence.ensures)
 
 pub value-returns-in_ok-source-in-Assignment : goal.value-returns-in_ok-source-in-Assignment
 value-returns-in_ok-source-in-Assignment t c =
     step _ (assignment-row (inside_view c.args.at) (types_of c.args.at) c.args.value.now _ _ c.args.k c.in-Assignment.is) (location-at (inside_view
-    c.args.at) (types_of c.args.at) _ c.get-in-Assignment.ensures c.in_ok-located-in-Assignment.ensures) (step _ refl (value-at (inside_view c.args.at)
+    c.args.at) (types_of c.args.at) _ c.get-in-Assignment.ensures c.in_ok-located-in-Assignment.ensures) (step _ refl (operand-at (inside_view c.args.at)
     (types_of c.args.at) _ c.get-in-Assignment-2.ensures c.in_ok-source-in-Assignment.ensures) (c.assign.ensures (rows_of c.args.at)))
 
 pub value-returns-in_ok-located-in-Update : goal.value-returns-in_ok-located-in-Update
@@ -462,22 +498,22 @@ value-returns-in_ok-located-in-Move t c =
 pub value-returns-in_ok-operand-in-Conversion : goal.value-returns-in_ok-operand-in-Conversion
 value-returns-in_ok-operand-in-Conversion t c =
     step _ (conversion-row (inside_view c.args.at) (types_of c.args.at) c.args.value.now _ _ _ _ _ c.args.k c.in-Conversion.is
-    c.get-in-Conversion-2.ensures c.ty-in-Conversion.ensures c.ty-in-Conversion-2.ensures) (value-at (inside_view c.args.at) (types_of c.args.at) _
+    c.get-in-Conversion-2.ensures c.ty-in-Conversion.ensures c.ty-in-Conversion-2.ensures) (operand-at (inside_view c.args.at) (types_of c.args.at) _
     c.get-in-Conversion.ensures c.in_ok-operand-in-Conversion.ensures) (c.converted.ensures (rows_of c.args.at))
 
 pub value-returns-in_ok-operand-in-ToBool : goal.value-returns-in_ok-operand-in-ToBool
 value-returns-in_ok-operand-in-ToBool t c =
-    step _ (to_bool-row (inside_view c.args.at) (types_of c.args.at) c.args.value.now _ _ _ c.args.k c.in-ToBool.is c.get-in-ToBool-2.ensures) (value-at
+    step _ (to_bool-row (inside_view c.args.at) (types_of c.args.at) c.args.value.now _ _ _ c.args.k c.in-ToBool.is c.get-in-ToBool-2.ensures) (operand-at
     (inside_view c.args.at) (types_of c.args.at) _ c.get-in-ToBool.ensures c.in_ok-operand-in-ToBool.ensures) c.truth.ensures
 
 pub value-returns-in-Requalified : goal.value-returns-in-Requalified
 value-returns-in-Requalified t c =
-    same-making (requalified-row (inside_view c.args.at) (types_of c.args.at) c.args.value.now _ c.args.k c.in-Requalified.is) (value-at (inside_view
+    same-making (requalified-row (inside_view c.args.at) (types_of c.args.at) c.args.value.now _ c.args.k c.in-Requalified.is) (operand-at (inside_view
     c.args.at) (types_of c.args.at) _ c.get-in-Requalified.ensures c.value-in-Requalified.ensures)
 
 pub value-returns-in-Discarded : goal.value-returns-in-Discarded
 value-returns-in-Discarded t c =
-    same-making (discarded-row (inside_view c.args.at) (types_of c.args.at) c.args.value.now _ c.args.k c.in-Discarded.is) (value-at (inside_view
+    same-making (discarded-row (inside_view c.args.at) (types_of c.args.at) c.args.value.now _ c.args.k c.in-Discarded.is) (operand-at (inside_view
     c.args.at) (types_of c.args.at) _ c.get-in-Discarded.ensures c.value-in-Discarded.ensures)
 
 pub value-returns-in_ok-function_number-in-Call : goal.value-returns-in_ok-function_number-in-Call
@@ -488,12 +524,12 @@ value-returns-in_ok-function_number-in-Call t c =
 pub value-returns-in_ok-args-in-CallThrough : goal.value-returns-in_ok-args-in-CallThrough
 value-returns-in_ok-args-in-CallThrough t c =
     step _ (call_through-row (inside_view c.args.at) (types_of c.args.at) c.args.value.now _ _ _ _ c.args.k _ c.in-CallThrough.is
-    c.get-in-CallThrough-2.ensures c.in_ok-behind-in-CallThrough.ensures.next) (value-at (inside_view c.args.at) (types_of c.args.at) _
+    c.get-in-CallThrough-2.ensures c.in_ok-behind-in-CallThrough.ensures.next) (operand-at (inside_view c.args.at) (types_of c.args.at) _
     c.get-in-CallThrough.ensures c.in_ok-callee-in-CallThrough.ensures) (step _ refl c.in_ok-args-in-CallThrough.ensures c.call_through.ensures)
 
 pub value-returns-in_ok-operand-in-Putchar : goal.value-returns-in_ok-operand-in-Putchar
 value-returns-in_ok-operand-in-Putchar t c =
-    step _ (putchar-row (inside_view c.args.at) (types_of c.args.at) c.args.value.now _ _ c.args.k c.in-Putchar.is) (value-at (inside_view c.args.at)
+    step _ (putchar-row (inside_view c.args.at) (types_of c.args.at) c.args.value.now _ _ c.args.k c.in-Putchar.is) (operand-at (inside_view c.args.at)
     (types_of c.args.at) _ c.get-in-Putchar.ensures c.in_ok-operand-in-Putchar.ensures) (c.put_byte.ensures (rows_of c.args.at))
 
 pub value-returns-in-Getchar : goal.value-returns-in-Getchar
@@ -503,13 +539,13 @@ value-returns-in-Getchar t c =
 
 pub value-returns-in_ok-operand-in-Exit : goal.value-returns-in_ok-operand-in-Exit
 value-returns-in_ok-operand-in-Exit t c =
-    step _ (exit-row (inside_view c.args.at) (types_of c.args.at) c.args.value.now _ _ c.args.k c.in-Exit.is) (value-at (inside_view c.args.at) (types_of
+    step _ (exit-row (inside_view c.args.at) (types_of c.args.at) c.args.value.now _ _ c.args.k c.in-Exit.is) (operand-at (inside_view c.args.at) (types_of
     c.args.at) _ c.get-in-Exit.ensures c.in_ok-operand-in-Exit.ensures) (c.exit.ensures (rows_of c.args.at))
 
 pub value-returns-in_err-left-in-Sum : goal.value-returns-in_err-left-in-Sum
 value-returns-in_err-left-in-Sum t c =
     stop _ (sum-row (inside_view c.args.at) (types_of c.args.at) c.args.value.now _ _ _ _ _ _ _ _ c.args.k _ c.in-Sum.is refl refl refl refl) (exits
-    c.from_residual-in_err-left-in-Sum.result _ c.from_residual-in_err-left-in-Sum.ensures.1) (value-at (inside_view c.args.at) (types_of c.args.at) _
+    c.from_residual-in_err-left-in-Sum.result _ c.from_residual-in_err-left-in-Sum.ensures.1) (operand-at (inside_view c.args.at) (types_of c.args.at) _
     c.get-in-Sum.ensures c.in_err-left-in-Sum.ensures)
 
 pub value-returns-in_err-free_behind-in-Sum : goal.value-returns-in_err-free_behind-in-Sum
@@ -520,21 +556,21 @@ value-returns-in_err-free_behind-in-Sum t c =
 pub value-returns-in_err-right-in-Sum : goal.value-returns-in_err-right-in-Sum
 value-returns-in_err-right-in-Sum t c =
     step _ (sum-row (inside_view c.args.at) (types_of c.args.at) c.args.value.now _ _ _ _ _ _ _ _ c.args.k _ c.in-Sum.is refl refl c.get-in-Sum-3.ensures
-    c.in_ok-free_behind-in-Sum.ensures.next) (value-at (inside_view c.args.at) (types_of c.args.at) _ c.get-in-Sum.ensures c.in_ok-left-in-Sum.ensures)
-    (stop _ refl (exits c.from_residual-in_err-right-in-Sum.result _ c.from_residual-in_err-right-in-Sum.ensures.1) (value-at (inside_view c.args.at)
+    c.in_ok-free_behind-in-Sum.ensures.next) (operand-at (inside_view c.args.at) (types_of c.args.at) _ c.get-in-Sum.ensures c.in_ok-left-in-Sum.ensures)
+    (stop _ refl (exits c.from_residual-in_err-right-in-Sum.result _ c.from_residual-in_err-right-in-Sum.ensures.1) (operand-at (inside_view c.args.at)
     (types_of c.args.at) _ c.get-in-Sum-2.ensures c.in_err-right-in-Sum.ensures))
 
 pub value-returns-in_ok-right-in-Sum : goal.value-returns-in_ok-right-in-Sum
 value-returns-in_ok-right-in-Sum t c =
     step _ (sum-row (inside_view c.args.at) (types_of c.args.at) c.args.value.now _ _ _ _ _ _ _ _ c.args.k _ c.in-Sum.is c.get-in-Sum-4.ensures
-    c.get-in-Sum-5.ensures c.get-in-Sum-3.ensures c.in_ok-free_behind-in-Sum.ensures.next) (value-at (inside_view c.args.at) (types_of c.args.at) _
-    c.get-in-Sum.ensures c.in_ok-left-in-Sum.ensures) (step _ refl (value-at (inside_view c.args.at) (types_of c.args.at) _ c.get-in-Sum-2.ensures
+    c.get-in-Sum-5.ensures c.get-in-Sum-3.ensures c.in_ok-free_behind-in-Sum.ensures.next) (operand-at (inside_view c.args.at) (types_of c.args.at) _
+    c.get-in-Sum.ensures c.in_ok-left-in-Sum.ensures) (step _ refl (operand-at (inside_view c.args.at) (types_of c.args.at) _ c.get-in-Sum-2.ensures
     c.in_ok-right-in-Sum.ensures) c.move_operands.ensures)
 
 pub address-returns-in_err-left-in-Element : goal.address-returns-in_err-left-in-Element
 address-returns-in_err-left-in-Element t c =
     stop _ (element-row (inside_view c.args.at) (types_of c.args.at) c.args.place.now _ _ _ _ _ _ _ c.args.k _ c.in-Element.is refl refl refl refl) (exits
-    c.from_residual-in_err-left-in-Element.result _ c.from_residual-in_err-left-in-Element.ensures.1) (value-at (inside_view c.args.at) (types_of
+    c.from_residual-in_err-left-in-Element.result _ c.from_residual-in_err-left-in-Element.ensures.1) (operand-at (inside_view c.args.at) (types_of
     c.args.at) _ c.get-in-Element.ensures c.in_err-left-in-Element.ensures)
 
 pub address-returns-in_err-free_behind-in-Element : goal.address-returns-in_err-free_behind-in-Element
@@ -545,16 +581,16 @@ address-returns-in_err-free_behind-in-Element t c =
 pub address-returns-in_err-right-in-Element : goal.address-returns-in_err-right-in-Element
 address-returns-in_err-right-in-Element t c =
     step _ (element-row (inside_view c.args.at) (types_of c.args.at) c.args.place.now _ _ _ _ _ _ _ c.args.k _ c.in-Element.is refl refl
-    c.get-in-Element-3.ensures c.in_ok-free_behind-in-Element.ensures.next) (value-at (inside_view c.args.at) (types_of c.args.at) _
+    c.get-in-Element-3.ensures c.in_ok-free_behind-in-Element.ensures.next) (operand-at (inside_view c.args.at) (types_of c.args.at) _
     c.get-in-Element.ensures c.in_ok-left-in-Element.ensures) (stop _ refl (exits c.from_residual-in_err-right-in-Element.result _
-    c.from_residual-in_err-right-in-Element.ensures.1) (value-at (inside_view c.args.at) (types_of c.args.at) _ c.get-in-Element-2.ensures
+    c.from_residual-in_err-right-in-Element.ensures.1) (operand-at (inside_view c.args.at) (types_of c.args.at) _ c.get-in-Element-2.ensures
     c.in_err-right-in-Element.ensures))
 
 pub address-returns-in_ok-right-in-Element : goal.address-returns-in_ok-right-in-Element
 address-returns-in_ok-right-in-Element t c =
     step _ (element-row (inside_view c.args.at) (types_of c.args.at) c.args.place.now _ _ _ _ _ _ _ c.args.k _ c.in-Element.is c.get-in-Element-4.ensures
-    c.get-in-Element-5.ensures c.get-in-Element-3.ensures c.in_ok-free_behind-in-Element.ensures.next) (value-at (inside_view c.args.at) (types_of
-    c.args.at) _ c.get-in-Element.ensures c.in_ok-left-in-Element.ensures) (step _ refl (value-at (inside_view c.args.at) (types_of c.args.at) _
+    c.get-in-Element-5.ensures c.get-in-Element-3.ensures c.in_ok-free_behind-in-Element.ensures.next) (operand-at (inside_view c.args.at) (types_of
+    c.args.at) _ c.get-in-Element.ensures c.in_ok-left-in-Element.ensures) (step _ refl (operand-at (inside_view c.args.at) (types_of c.args.at) _
     c.get-in-Element-2.ensures c.in_ok-right-in-Element.ensures) c.move_operands.ensures)
 
 pub arguments-push-requires : goal.arguments-push-requires

@@ -1,4 +1,4 @@
-use Rattle.std.proofs.Common.{refl, ap, true, false}
+use Rattle.std.proofs.Common.{refl, ap}
 use Rattle.lower.specs.Emitting.{new}
 use Rattle.lower.specs.Expressions.{changing}
 use Rattle.mid_code.specs.declared.program.RegisterKind.TheVariants.{Address}

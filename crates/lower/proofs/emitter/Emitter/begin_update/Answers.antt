@@ -1,4 +1,4 @@
-use Rattle.std.proofs.Common.{refl, sym, ap, Err, true, false, ◌∙◌}
+use Rattle.std.proofs.Common.{suc, refl, sym, ap, Err, ◌∙◌}
 use Rattle.lower.specs.Emitting.{temporary}
 use Rattle.lower.specs.Expressions.{changing}
 use Rattle.lower.proofs.Steps.{step, stop, exits, given, memory, same-making}

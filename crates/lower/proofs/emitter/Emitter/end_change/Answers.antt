@@ -1,4 +1,4 @@
-use Rattle.std.proofs.Common.{refl, ap, true, false}
+use Rattle.std.proofs.Common.{if◌then◌else◌, refl, ap}
 use Rattle.lower.specs.Emitting.{pure}
 use Rattle.lower.proofs.Steps.{step, stop, exits, given, same-making}
 use Rattle.lower.proofs.emitter.Emitter.end_change.Goals as goal

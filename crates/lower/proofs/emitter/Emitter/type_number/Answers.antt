@@ -1,6 +1,6 @@
-use Rattle.lower.specs.Emitting.{type_number as number_of_type}
-use Rattle.lower.specs.Emits.{itself}
+use Rattle.std.proofs.Common.{subst}
 use Rattle.c_types.specs.Table.{type_at}
+use Rattle.lower.specs.Emitting.{type_number as number_of_type}
 use Rattle.lower.specs.Emits.{Allots, itself}
 use Rattle.lower.proofs.Emitted.{no-code}
 use Rattle.lower.proofs.emitter.Emitter.type_number.Goals as goal
