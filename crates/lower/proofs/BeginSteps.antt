@@ -1,6 +1,5 @@
 -- What parts that begin objects, one after another, begin.
-use Rattle.std.proofs.Common.{◌≡◌, ℕ, zero, suc, ◌+◌, List, [], ◌∷◌, ◌++◌, length, reverse, Bool, true, false, Option, Some, None, Result, Ok, Err, refl, sym, ◌∙◌, ap, subst, arith}
-use Rattle.std.specs.Prelude.{⊤}
+use Rattle.std.proofs.Common.{◌≡◌, ℕ, suc, ◌+◌, List, [], ◌∷◌, ◌++◌, length, Bool, true, false, Option, Some, None, Result, Ok, Err, refl, sym, ◌∙◌, ap, subst, arith}
 use Rattle.std.proofs.lemmas.List.{append-nil, append_assoc, length-append, reverse-append}
 use Rattle.c_types.specs.declared.type_ref.Row.{Row}
 use Rattle.lower.specs.declared.body.Body.{Body}
@@ -8,7 +7,7 @@ use Rattle.lower.specs.declared.emitter.Emitter.{Emitter}
 use Rattle.lower.specs.declared.refusal.LowerRefusal.{LowerRefusal}
 use Rattle.lower.specs.declared.refusal.LowerRefusal.TheVariants.{TooManyRegisters, TooLong, Memory}
 use Rattle.mid_code.specs.declared.program.RegisterKind.{RegisterKind}
-use Rattle.lower.specs.Emitting.{new, most_registers, Line, Code, ◌⨟◌, Around, Allotted, Made, Making, made, behind, and_then, ◌>>=◌, pure}
+use Rattle.lower.specs.Emitting.{new, most_registers, Line, Code, Around, Allotted, Made, Making, behind, and_then, ◌>>=◌, pure}
 use Rattle.lower.specs.SoFar.{Leads, Lines, with_line, if_room, added, grown, most_instructions, IsHere}
 use Rattle.lower.specs.Drafts.{code_of}
 use Rattle.lower.specs.Emits.{AllStand, allotted_view, Grows, Makes, EmitsAs, Emits}
@@ -23,7 +22,8 @@ abbrev pub Sized : {A : Type 0} → ℕ → Result (Made A) ℕ → Type 0
 Sized size (Ok k) = (around : Around) (start : ℕ) → length (k.code around start) ≡ size
 Sized size (Err line) = Unit {0}
 
-sized-made : {A : Type 0} (c : Code) (n p : ℕ) (d : Result (Made A) ℕ) → ((around : Around) (start : ℕ) → length (c around start) ≡ n) → Sized p d → Sized (n + p) (behind c d)
+sized-made : {A : Type 0} (c : Code) (n p : ℕ) (d : Result (Made A) ℕ) → ((around : Around) (start : ℕ) → length (c around start) ≡ n) → Sized p d
+    → Sized (n + p) (behind c d)
 sized-made c n p (Ok k) first next = λ around start.
     length-append (c around start) (k.code around (start + length (c around start)))
     ∙ (λ i. first around start i + next around (start + length (c around start)) i)
@@ -87,7 +87,8 @@ began-both first rest begun size o p c d around (Some ls) (Some ms) (Some after)
 
 -- ---- steps
 
-pub more-both : (first rest begun : ℕ → List ℕ) (size : ℕ) → ((start : ℕ) → begun start ≡ rest (start + size) ++ first start) → (old mid new : Body) (c d : Code)
+pub more-both : (first rest begun : ℕ → List ℕ) (size : ℕ) → ((start : ℕ) → begun start ≡ rest (start + size) ++ first start) → (old mid new : Body)
+    (c d : Code)
     → ((around : Around) (start : ℕ) → length (c around start) ≡ size)
     → Grows c (code_of old.out.code) (code_of mid.out.code) → Grows d (code_of mid.out.code) (code_of new.out.code)
     → MoreObjects first old mid → MoreObjects rest mid new → MoreObjects begun old new
@@ -106,9 +107,14 @@ module _ {A B Y : Type 0} (next_view : Y → B) (rows : List Row) (first rest be
   opens-then : (a : A) (y : Y) (c : Made A) (d : Result (Made B) ℕ) → ((around : Around) (start : ℕ) → length (c.code around start) ≡ size)
       → MoreObjects first old mid → Grows c.code (code_of old.out.code) (code_of mid.out.code) → Opens rows rest d (next_view y) mid new
       → Opens rows begun (behind c.code d) (next_view y) old new
-  opens-then a y c (Ok m) sized more grows next =
-      (next.0, next.1, more-both first rest begun size are old mid new c.code m.code sized grows next.3 more next.2, (λ leads around. next.3 leads around ∙ ap (grown around m.code) (grows leads around)
-      ∙ grown-behind around c.code m.code (code_of old.out.code leads)), next.4)
+  opens-then a y c (Ok m) sized more grows next = (
+    next.0,
+    next.1,
+    more-both first rest begun size are old mid new c.code m.code sized grows next.3 more next.2,
+    (λ leads around. next.3 leads around ∙ ap (grown around m.code) (grows leads around)
+        ∙ grown-behind around c.code m.code (code_of old.out.code leads)),
+    next.4,
+  )
   opens-then a y c (Err line) sized more grows next = absurd next
 
   opens-given : (a : A) (f : A → Making B) (y : Y) (c : Result (Made A) ℕ) → Sized size c → Opens rows first c a old mid
@@ -144,7 +150,8 @@ begin-step {X} {A} {Y} {B} {view} {next_view} {rows} {first} {rest} {begun} {old
     by (Err Memory) then = then
 
 -- a part was refused, which the whole is then
-pub begin-stop : {X A Y B : Type 0} {view : X → A} {next_view : Y → B} {rows : List Row} {first begun : ℕ → List ℕ} {old mid new : Body} {r : Result Y LowerRefusal}
+pub begin-stop : {X A Y B : Type 0} {view : X → A} {next_view : Y → B} {rows : List Row} {first begun : ℕ
+    → List ℕ} {old mid new : Body} {r : Result Y LowerRefusal}
     {e : LowerRefusal} {m : Making A} {w : Making B} (f : A → Making B)
     → w ≡ (m >>= f) → r ≡ Err e → Begins view rows first old mid (Err e) m → Begins next_view rows begun old new r w
 unfolding ◌>>=◌

@@ -110,7 +110,8 @@ module _ (rows : List Row) (begun : ℕ → List ℕ) (s p q r : Body) where
       → r.out ≡ q.out → r.objects.items ≡ take (length s.objects.items) q.objects.items → r.outside.items ≡ q.outside.items
       → MakesAround rows (around_code (lived begun) (and_then c (λ done. n))) tt s r
   live-given (Ok c) n now next out objects outside =
-      live-made c (n c.after) now.2 now.3 (subst (λ (d : Result (Made (Unit {0})) ℕ). MakesAround rows d tt p q) (λ i. n (sym now.1 i)) (next now.4)) out objects outside
+      live-made c (n c.after) now.2 now.3 (subst (λ (d : Result (Made (Unit {0})) ℕ). MakesAround rows d tt p q) (λ i. n (sym now.1 i))
+      (next now.4)) out objects outside
   live-given (Err line) n now next out objects outside = now
 
   end-made : (line : ℕ) (c : Made (Unit {0})) (d : Result (Made (Unit {0})) ℕ) → MoreObjects begun s p → Grows c.code (code_of s.out.code) (code_of p.out.code)
@@ -164,7 +165,8 @@ pub block : {rows : List Row} (i : Inside) (locals : List ℕ) (line : ℕ) (n :
 unfolding ◌>>=◌
 block {rows} i locals line n s p q r z first next down = record {
   is = λ stand.
-      end-given rows (λ start. begun_at i.rows start locals) s p q r line (all_begin i locals (allotted_view rows s.out.allotted)) n (first.is stand) next.is down;
+      end-given rows (λ start. begun_at i.rows start locals) s p q r line (all_begin i locals (allotted_view rows s.out.allotted)) n
+      (first.is stand) next.is down;
 }
 
 -- ---- refusals
@@ -179,7 +181,8 @@ opened-refused rows begun s p (Ok c) n line now next = ap (behind c.code) ((λ i
 opened-refused rows begun s p (Err l) n line now next = absurd now
 
 -- what is inside was refused
-pub live-refused : {Y : Type 0} {view : Y → Unit {0}} {rows : List Row} (begun : ℕ → List ℕ) (m n : Making (Unit {0})) (s p q r : Body) {x : ⊤} {e : LowerRefusal}
+pub live-refused : {Y : Type 0} {view : Y → Unit {0}} {rows : List Row} (begun : ℕ → List ℕ) (m n : Making (Unit {0}))
+    (s p q r : Body) {x : ⊤} {e : LowerRefusal}
     {t : Result Y LowerRefusal} → t ≡ Err e
     → Begins nothing rows begun s p (Ok x) m → Runs nothing rows p q (Err e) n
     → Runs view rows s r t (wrapped (lived begun) (m >> n))
@@ -216,7 +219,8 @@ wrapped-refused {Y} {view} {rows} f m s r r' e {t} out h =
     by (TooLong line) h = h
     by Memory h = h
 
-pub block-refused : {Y : Type 0} {view : Y → Unit {0}} {rows : List Row} (i : Inside) (locals : List ℕ) (line : ℕ) (n : Making (Unit {0})) (s p q r : Body) {x : ⊤}
+pub block-refused : {Y : Type 0} {view : Y → Unit {0}} {rows : List Row} (i : Inside) (locals : List ℕ) (line : ℕ) (n : Making (Unit {0}))
+    (s p q r : Body) {x : ⊤}
     {e : LowerRefusal} {t : Result Y LowerRefusal} → t ≡ Err e
     → Begins nothing rows (λ start. begun_at i.rows start locals) s p (Ok x) (all_begin i locals) → Runs nothing rows p q (Err e) n
     → Runs view rows s r t (in_block i locals line n)

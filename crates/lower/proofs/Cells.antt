@@ -1,5 +1,5 @@
 -- What gives locals their values, in the words of the code.
-use Rattle.std.proofs.Common.{◌≡◌, ℕ, zero, suc, ◌+◌, ◌<◌, ◌≤◌, true, false, Bool, List, [], ◌∷◌, map, drop, length, refl, sym, ◌∙◌, ap}
+use Rattle.std.proofs.Common.{◌≡◌, ℕ, zero, suc, ◌+◌, ◌<◌, ◌≤◌, true, false, Bool, List, ◌∷◌, map, drop, length, refl, sym, ◌∙◌, ap}
 use Rattle.std.specs.Prelude.{if◌then◌else◌}
 use Rattle.std.proofs.Math.ListN.{get_or}
 use Rattle.std.proofs.lemmas.List.{drop_more, drop_all}
@@ -12,14 +12,15 @@ use Rattle.c_typed.specs.declared.statement.Cell.{Cell as CodeCell}
 use Rattle.c_typed.specs.declared.statement.LocalItem.{LocalItem as CodeLocalItem}
 use Rattle.c_typed.specs.Statements.{LocalRow}
 use Rattle.c_typed.specs.StatementViews.{cell_view, local_item_view}
-use Rattle.lower.specs.Emitting.{Making, ◌>>=◌, ◌>>◌, pure, emits, temporary}
+use Rattle.lower.specs.Emitting.{Making, ◌>>=◌, pure, emits, temporary}
 use Rattle.lower.specs.Expressions.{Inside}
 use Rattle.lower.specs.Statements.{to_cell, storing, cell_given, cells_given, initializes, all_initialize}
 use Rattle.lower.specs.Emits.{emits_mid}
 
 -- to another cell than the first
 pub moved-far : (row : LocalRow) (at cell v : ℕ) → (cell ≡ 0 → ⊥) → v ≡ cell
-    → to_cell row at cell ≡ (temporary 0 row.line >>= (λ index. emits row.first (mid.Const index v) >>= (λ _. emits row.line (mid.PtrAdd at at index UInt false 1))))
+    → to_cell row at cell ≡ (temporary 0 row.line >>= (λ index. emits row.first (mid.Const index v) >>=
+    (λ _. emits row.line (mid.PtrAdd at at index UInt false 1))))
 moved-far row at zero v far is = absurd (far refl)
 moved-far row at (suc before) v far is =
     ap (λ n. temporary 0 row.line >>= (λ index. emits row.first (mid.Const index n) >>= (λ _. emits row.line (mid.PtrAdd at at index UInt false 1)))) (sym is)

@@ -1,5 +1,5 @@
 -- Objects that end, the newest first.
-use Rattle.std.proofs.Common.{◌≡◌, ℕ, List, [], ◌∷◌, ◌++◌, length, reverse, Bool, true, false, Option, Some, None, Result, Ok, Err, refl, sym, ◌∙◌, ap, subst, arith}
+use Rattle.std.proofs.Common.{◌≡◌, ℕ, List, [], ◌∷◌, ◌++◌, length, reverse, Bool, true, false, Some, None, Ok, refl, sym, ◌∙◌, ap, subst, arith}
 use Rattle.std.specs.Prelude.{⊤, if◌then◌else◌}
 use Rattle.std.proofs.lemmas.List.{reverse-append}
 use Rattle.mid_code.specs.declared.mid.Mid.TheVariants as mid
@@ -7,16 +7,14 @@ use Rattle.c_types.specs.declared.type_ref.Row.{Row}
 use Rattle.lower.specs.declared.body.Body.{Body}
 use Rattle.lower.specs.declared.emitter.Emitter.{Emitter}
 use Rattle.lower.specs.declared.allotted.Allotted.{Allotted as CodeAllotted}
-use Rattle.lower.specs.declared.refusal.LowerRefusal.{LowerRefusal}
-use Rattle.lower.specs.declared.refusal.LowerRefusal.TheVariants.{TooManyRegisters, TooLong, Memory}
-use Rattle.lower.specs.Emitting.{Line, at_line, Code, Around, Made, Making, made, ◌>>=◌, ◌>>◌, emits_code}
+use Rattle.lower.specs.Emitting.{Line, at_line, Code, Around, ◌>>=◌, emits_code}
 use Rattle.lower.specs.SoFar.{Leads, leads_of, Lines, added, with_line, grown}
 use Rattle.lower.specs.Drafts.{code_of}
 use Rattle.lower.specs.Emits.{AllStand, allotted_view, nothing, emits_mid}
-use Rattle.lower.specs.Statements.{closes, breaks, continues, returns}
+use Rattle.lower.specs.Statements.{closes, returns}
 use Rattle.lower.specs.Expressions.{Inside}
-use Rattle.lower.specs.Runs.{around_of, SameObjects, GrowsAround, MakesAround, Runs}
-use Rattle.lower.specs.Bodies.{Closing, Closes}
+use Rattle.lower.specs.Runs.{around_of, SameObjects, GrowsAround, Runs}
+use Rattle.lower.specs.Bodies.{Closing}
 use Rattle.lower.proofs.Growing.{added-none, added-append}
 
 pub close-last : (line : ℕ) (before rest : List ℕ) (x : ℕ) (old new : Lines) → before ≡ rest ++ x ∷ [] → new ≡ with_line (at_line line (mid.Close x)) old
@@ -81,7 +79,8 @@ pub returns-by : (i : Inside) (line r : ℕ) (b : Bool) → i.is_main ≡ b
     → emits_code (returns i line r)
     ≡ emits_code (λ around start. if b then at_line line (mid.Exit r) ∷ [] else closes line around.in_function ++ at_line line (mid.Return r) ∷ [])
 returns-by i line r b is =
-    ap (λ (z : Bool). emits_code (λ around start. if z then at_line line (mid.Exit r) ∷ [] else closes line around.in_function ++ at_line line (mid.Return r) ∷ [])) is
+    ap (λ (z : Bool). emits_code (λ around start. if z then at_line line (mid.Exit r) ∷ [] else closes line around.in_function ++ at_line line
+    (mid.Return r) ∷ [])) is
 
 pub returns-exit : (i : Inside) (line r : ℕ) → i.is_main ≡ true → emits_code (returns i line r) ≡ emits_mid line (mid.Exit r)
 returns-exit i line r is = returns-by i line r true is

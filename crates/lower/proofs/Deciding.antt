@@ -1,12 +1,12 @@
 -- What `&&`, `||` and `?:` make behind their first operand, from what their parts do.
-use Rattle.std.proofs.Common.{◌≡◌, ℕ, Bool, true, false, List, Result, Ok, Err, refl, subst}
+use Rattle.std.proofs.Common.{◌≡◌, ℕ, Bool, false, List, Result, Ok, Err, refl, subst}
 use Rattle.c_types.specs.declared.type_ref.Row.{Row}
 use Rattle.c_types.specs.Types.{CType}
 use Rattle.lower.specs.declared.emitter.Emitter.{Emitter}
 use Rattle.lower.specs.declared.refusal.LowerRefusal.{LowerRefusal}
 use Rattle.lower.specs.Drafts.{code_of}
 use Rattle.lower.specs.Emitting.{Making, ◌>>=◌}
-use Rattle.lower.specs.Expressions.{deciding, digit, decides, tests_second, chosen, joins_first, joins_second, constant_to}
+use Rattle.lower.specs.Expressions.{deciding, decides, tests_second, chosen, joins_first, joins_second, constant_to}
 use Rattle.lower.specs.Jumps.{LandsHere, Waiting, Turning}
 use Rattle.lower.specs.Emits.{Emits, itself}
 use mir.Val.{bool_byte}
@@ -55,7 +55,8 @@ module _ (rows : List Row) (t : CType) (line x at : ℕ) (a b : Making ℕ) (s0 
       → Emits itself rows s0 s5 r (chosen t line a b x)
   second-operand-refused y d over s2 s3 s4 s5 waits first joins turns second out =
       same-answer out
-      (second-refused {view = itself} {second_view = itself} (λ d. b >>= joins_second t line d) waits (step {view = itself} {next_view = itself} _ refl first joins) turns
+      (second-refused {view = itself} {second_view = itself} (λ d. b >>= joins_second t line d) waits
+      (step {view = itself} {next_view = itself} _ refl first joins) turns
       (stop {view = itself} {next_view = itself} _ refl refl second))
 
   pub second-join-refused : (y d over z : ℕ) (s2 s3 s4 s5 s6 : Emitter) → Waiting line (deciding false x) s0 s1 at → Emits itself rows s1 s2 (Ok y) a
@@ -63,7 +64,8 @@ module _ (rows : List Row) (t : CType) (line x at : ℕ) (a b : Making ℕ) (s0 
       → Emits itself rows s5 s6 (Err e) (joins_second t line d z) → r ≡ Err e → Emits itself rows s0 s6 r (chosen t line a b x)
   second-join-refused y d over z s2 s3 s4 s5 s6 waits first joins turns second last out =
       same-answer out
-      (second-refused {view = itself} {second_view = itself} (λ d. b >>= joins_second t line d) waits (step {view = itself} {next_view = itself} _ refl first joins) turns
+      (second-refused {view = itself} {second_view = itself} (λ d. b >>= joins_second t line d) waits
+      (step {view = itself} {next_view = itself} _ refl first joins) turns
       (step {view = itself} {next_view = itself} _ refl second last))
 
 pub chose : (rows : List Row) (t : CType) (line x at : ℕ) (a b : Making ℕ) (y d over z w : ℕ) (s0 s1 s2 s3 s4 s5 s6 s7 : Emitter)

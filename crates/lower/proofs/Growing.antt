@@ -1,6 +1,6 @@
 -- How code grows: part by part, as the parts stand behind one another.
-use Rattle.std.proofs.Common.{◌≡◌, ℕ, zero, suc, ◌+◌, nat_lt, Bool, true, false, List, [], ◌∷◌, ◌++◌, length, Option, Some, None, refl, sym, ◌∙◌, ap, subst, arith}
-use Rattle.std.proofs.lemmas.List.{length-append, append_assoc}
+use Rattle.std.proofs.Common.{◌≡◌, ℕ, suc, ◌+◌, nat_lt, Bool, true, false, List, [], ◌∷◌, ◌++◌, length, Some, None, refl, sym, ◌∙◌, ap, arith}
+use Rattle.std.proofs.lemmas.List.{length-append}
 use Rattle.lower.specs.Emitting.{Line, Code, ◌⨟◌, no_code, Around}
 use Rattle.lower.specs.SoFar.{Lines, with_line, if_room, added, grown, most_instructions}
 
@@ -33,7 +33,8 @@ grown-at around d (x ∷ xs) ls = next (nat_lt (length ls) most_instructions) (g
         ∙ ap (λ n. added (d around n) (added xs (Some (ls ++ x ∷ []))))
         (ap (λ n. n + length xs) (length-append ls (x ∷ [])) ∙ plus-suc (length ls) (length xs))
     next false h =
-        ap (grown around d) (added-none xs) ∙ sym (ap (added (d around (length ls + suc (length xs)))) (added-none xs) ∙ added-none (d around (length ls + suc (length xs))))
+        ap (grown around d) (added-none xs) ∙ sym (ap (added (d around (length ls + suc (length xs)))) (added-none xs) ∙ added-none
+        (d around (length ls + suc (length xs))))
 
 pub grown-behind : (around : Around) (c d : Code) (s : Lines) → grown around d (grown around c s) ≡ grown around (c ⨟ d) s
 grown-behind around c d None = refl
@@ -44,4 +45,3 @@ grown-behind around c d (Some ls) =
 pub grown-none : (around : Around) (s : Lines) → s ≡ grown around no_code s
 grown-none around None = refl
 grown-none around (Some ls) = refl
-

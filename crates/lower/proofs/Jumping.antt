@@ -1,6 +1,6 @@
 -- What a jump over code makes, once it is led to the place behind: of one part, and of two ways.
-use Rattle.std.proofs.Common.{◌≡◌, ℕ, ◌+◌, ◌-◌, ◌<◌, Bool, true, false, not, if◌then◌else◌, suc, Fits, w32, arith, List, [], ◌∷◌, Option, Some, None, Result, Ok, Err, refl, sym, ◌∙◌, ap, subst}
-use Rattle.std.specs.Prelude.{⊤, All}
+use Rattle.std.proofs.Common.{◌≡◌, ℕ, ◌+◌, ◌-◌, Bool, true, false, not, Fits, w32, arith, List, [], ◌∷◌, Some, None, Result, Ok, Err, refl, sym, ◌∙◌, ap, subst}
+use Rattle.std.specs.Prelude.{⊤}
 use Rattle.c_types.specs.declared.type_ref.Row.{Row}
 use Rattle.mid_code.specs.declared.mid.Mid.{Mid}
 use Rattle.mid_code.specs.declared.mid.Mid.TheVariants as mid
@@ -63,7 +63,8 @@ pub emits-here : {rows : List Row} {old new : Emitter} {r : Result ⊤ LowerRefu
     → Emits nothing rows old new r (emits_mid line (jump here)) → Emits nothing rows old new r (making.emits_code (one_at line jump))
 emits-here {rows} {old} {new} {r} line here jump tells is h = record { is = by r h.is }
   where
-    by : (r : Result ⊤ LowerRefusal) → EmitsAs nothing rows old new r (emits_mid line (jump here)) → EmitsAs nothing rows old new r (making.emits_code (one_at line jump))
+    by : (r : Result ⊤ LowerRefusal) → EmitsAs nothing rows old new r (emits_mid line (jump here)) → EmitsAs nothing rows old new r
+        (making.emits_code (one_at line jump))
     by (Ok x) e = λ stand. let m = e stand in
         (m.0, m.1, (λ leads around. m.2 leads around ∙ jump-here around line here jump tells (code_of old.code leads) (is leads)), m.3)
     by (Err (TooManyRegisters l)) e = λ stand. absurd (differ (e stand))
@@ -71,6 +72,7 @@ emits-here {rows} {old} {new} {r} line here jump tells is h = record { is = by r
         is-ok : Result (Made (Unit {0})) ℕ → Type 0
         is-ok (Ok x) = Unit {0}
         is-ok (Err k) = ⊥
+
         differ : making.emits_code (λ around start. told line (jump here) ∷ []) (allotted_view rows old.allotted) ≡ Err l → ⊥
         differ q = subst is-ok q tt
     by (Err (TooLong l)) e = e
@@ -104,11 +106,14 @@ jumped-over {X} {A} {view} {rows} {line} {at} {jump} {s0} {s1} {s2} {s3} {x} {bo
     record { is = λ stand. by (body (allotted_view rows s0.allotted)) (allots-same A rows body (view x) s0 s1 s2 waits.allotted inner.is stand) }
   where
     by : (m : Result (Made A) ℕ) → Makes rows m (view x) s1 s2 → Makes rows (around_code (jumped line jump) m) (view x) s0 s3
-    by (Ok m) h =
-        (h.0, h.1 ∙ ap (allotted_view rows) (sym same), (λ leads around.
-        behind-jump around line jump m.code led at (code_of s0.code leads) (code_of s2.code leads) (code_of s3.code leads) (waits.here leads)
-        (h.2 leads around ∙ ap (grown around m.code) (waits.grown leads)) (lands leads)),
-        subst (λ z. AllStand rows z.types.keys) (sym same) h.3)
+    by (Ok m) h = (
+      h.0,
+      h.1 ∙ ap (allotted_view rows) (sym same),
+      (λ leads around.
+          behind-jump around line jump m.code led at (code_of s0.code leads) (code_of s2.code leads) (code_of s3.code leads) (waits.here leads)
+          (h.2 leads around ∙ ap (grown around m.code) (waits.grown leads)) (lands leads)),
+      subst (λ z. AllStand rows z.types.keys) (sym same) h.3,
+    )
     by (Err l) h = absurd h
 
 -- that part was refused
@@ -140,21 +145,27 @@ pub both-ways : {X A Y B : Type 0} {view : X → A} {second_view : Y → B} {row
     → Emits second_view rows s3 s4 (Ok y) (n (view x)) → s5.allotted ≡ s4.allotted → LandsHere over (code_of s4.code) (code_of s5.code)
     → Emits view rows s0 s5 (Ok x) (two_ways line jump m n)
 unfolding ◌>>=◌
-both-ways {X} {A} {Y} {B} {view} {second_view} {rows} {line} {at} {over} {jump} {s0} {s1} {s2} {s3} {s4} {s5} {x} {y} {m} n led waits first turns second same lands =
+both-ways {X} {A} {Y} {B} {view} {second_view} {rows} {line} {at} {over} {jump} {s0} {s1} {s2} {s3} {s4} {s5} {x} {y} {m} n led waits first turns second
+    same lands =
     record { is = λ stand. by (m (allotted_view rows s0.allotted)) (allots-same A rows m (view x) s0 s1 s2 waits.allotted first.is stand) }
   where
     behind-first : (a : A) (c : Code) → a ≡ view x → Grows c (code_of s1.code) (code_of s2.code) → (d : Result (Made B) ℕ) → Makes rows d (second_view y) s3 s4
         → Makes rows (behind no_code (and_then (making.code_of d) (λ e. making.emits_code (parted line jump c e.1) >>= (λ u. pure a)))) (view x) s0 s5
-    behind-first a c given grows (Ok d) h =
-        (given, h.1 ∙ ap (allotted_view rows) (sym same), (λ leads around.
-        behind-both around line jump c d.code led at over (code_of s0.code leads) (code_of s2.code leads) (code_of s3.code leads) (code_of s4.code leads)
-        (code_of s5.code leads) (waits.here leads) (grows leads around ∙ ap (grown around c) (waits.grown leads)) (turns.here leads) (turns.lands leads)
-        (h.2 leads around) (lands leads)
-        ∙ sym (grown-alone around (parted line jump c d.code) (code_of s0.code leads))),
-        subst (λ z. AllStand rows z.types.keys) (sym same) h.3)
+    behind-first a c given grows (Ok d) h = (
+      given,
+      h.1 ∙ ap (allotted_view rows) (sym same),
+      (λ leads around.
+          behind-both around line jump c d.code led at over (code_of s0.code leads) (code_of s2.code leads) (code_of s3.code leads) (code_of s4.code leads)
+          (code_of s5.code leads) (waits.here leads) (grows leads around ∙ ap (grown around c) (waits.grown leads)) (turns.here leads) (turns.lands leads)
+          (h.2 leads around) (lands leads)
+          ∙ sym (grown-alone around (parted line jump c d.code) (code_of s0.code leads))),
+      subst (λ z. AllStand rows z.types.keys) (sym same) h.3,
+    )
     behind-first a c given grows (Err l) h = absurd h
+
     by : (c : Result (Made A) ℕ) → Makes rows c (view x) s1 s2
-        → Makes rows (and_then (making.code_of c) (λ first. apart (n first.0) >>= (λ second. making.emits_code (parted line jump first.1 second.1) >>= (λ u. pure first.0))))
+        → Makes rows (and_then (making.code_of c) (λ first. apart (n first.0) >>=
+        (λ second. making.emits_code (parted line jump first.1 second.1) >>= (λ u. pure first.0))))
         (view x) s0 s5
     by (Ok c) h =
         behind-first c.given c.code h.0 h.2 (n c.given c.after)
@@ -171,7 +182,8 @@ first-refused {X} {A} {B} {view} {rows} {line} {at} {jump} {s0} {s1} {s2} {e} {m
   where
     by : (e : LowerRefusal) → EmitsAs view rows s1 s2 (Err e) m → EmitsAs view rows s0 s2 (Err e) (two_ways line jump m n)
     by (TooManyRegisters l) h = λ stand.
-        ap (λ c. and_then (making.code_of c) (λ first. apart (n first.0) >>= (λ second. making.emits_code (parted line jump first.1 second.1) >>= (λ u. pure first.0))))
+        ap (λ c. and_then (making.code_of c) (λ first. apart (n first.0) >>=
+        (λ second. making.emits_code (parted line jump first.1 second.1) >>= (λ u. pure first.0))))
         (refuses-same A rows m l s0 s1 waits.allotted h stand)
     by (TooLong l) h = h
     by Memory h = h
@@ -182,16 +194,19 @@ pub second-refused : {X A Y B : Type 0} {view : X → A} {second_view : Y → B}
     → Waiting line jump s0 s1 at → Emits view rows s1 s2 (Ok x) m → Turning line at s2 s3 over
     → Emits second_view rows s3 s4 (Err e) (n (view x)) → Emits view rows s0 s4 (Err e) (two_ways line jump m n)
 unfolding ◌>>=◌
-second-refused {X} {A} {Y} {B} {view} {second_view} {rows} {line} {at} {over} {jump} {s0} {s1} {s2} {s3} {s4} {x} {e} {m} n waits first turns second = record { is = by e second.is }
+second-refused {X} {A} {Y} {B} {view} {second_view} {rows} {line} {at} {over} {jump} {s0} {s1} {s2} {s3} {s4} {x} {e} {m} n waits first turns second =
+    record { is = by e second.is }
   where
     refused : (l : ℕ) → (AllStand rows s3.allotted.types.keys → n (view x) (allotted_view rows s3.allotted) ≡ Err l)
         → (c : Result (Made A) ℕ) → Makes rows c (view x) s1 s2
-        → and_then (making.code_of c) (λ first. apart (n first.0) >>= (λ second. making.emits_code (parted line jump first.1 second.1) >>= (λ u. pure first.0))) ≡ Err l
+        → and_then (making.code_of c) (λ first. apart (n first.0) >>=
+        (λ second. making.emits_code (parted line jump first.1 second.1) >>= (λ u. pure first.0))) ≡ Err l
     refused l h (Ok c) made =
         ap (λ d. behind no_code (and_then (making.code_of d) (λ second. making.emits_code (parted line jump c.code second.1) >>= (λ u. pure c.given))))
         ((λ i. n (made.0 i) ((made.1 ∙ ap (allotted_view rows) (sym turns.allotted)) i))
         ∙ h (subst (λ z. AllStand rows z.types.keys) (sym turns.allotted) made.3))
     refused l h (Err k) made = absurd made
+
     by : (e : LowerRefusal) → EmitsAs second_view rows s3 s4 (Err e) (n (view x)) → EmitsAs view rows s0 s4 (Err e) (two_ways line jump m n)
     by (TooManyRegisters l) h = λ stand. refused l h (m (allotted_view rows s0.allotted)) (allots-same A rows m (view x) s0 s1 s2 waits.allotted first.is stand)
     by (TooLong l) h = h

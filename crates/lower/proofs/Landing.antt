@@ -1,13 +1,12 @@
 -- What becomes of the code when a jump in it is led to the place behind it.
-use Rattle.std.proofs.Common.{◌≡◌, ◌≤◌, ◌<◌, ℕ, zero, suc, ◌+◌, Bool, true, false, List, [], ◌∷◌, ◌++◌, length, Option, Some, None, option_map, refl, sym, ◌∙◌, ap, subst, arith, nat_lt}
+use Rattle.std.proofs.Common.{◌≡◌, ◌≤◌, ℕ, zero, suc, ◌+◌, Bool, true, false, List, [], ◌∷◌, ◌++◌, length, Option, Some, None, option_map, refl, sym, ◌∙◌, ap, subst, arith, nat_lt}
 use Rattle.std.proofs.lemmas.List.{length-append, append_assoc}
-use Rattle.std.proofs.lemmas.Bool.{lt-ltb, le-ltb}
 use Rattle.mid_code.specs.declared.mid.Mid.{Mid}
 use Rattle.mid_code.specs.declared.mid.Mid.TheVariants as mid
 use Rattle.lower.specs.Emitting.{Line, Code, ◌⨟◌, at_line, one_at, jumped, parted, Around}
 use Rattle.lower.specs.SoFar.{Lines, with_line, if_room, added, grown, landed, line_to, IsHere, most_instructions}
 use Rattle.lower.specs.Jumps.{LandsIn}
-use Rattle.lower.proofs.Growing.{added-none, added-append, grown-behind}
+use Rattle.lower.proofs.Growing.{added-none, grown-behind}
 
 -- ---- code that fits
 
@@ -34,6 +33,7 @@ added-length (x ∷ xs) ls ms is = by (added-length xs (ls ++ x ∷ []) ms) (nat
         is-none : Option (List Line) → Type 0
         is-none None = Unit {0}
         is-none (Some z) = ⊥
+
         apart : None ≡ Some ms → ⊥
         apart h = subst is-none h tt
 
@@ -105,8 +105,10 @@ module _ (around : Around) (line : ℕ) (jump : ℕ → Mid) (c : Code) (led : (
     where
       skipped : List Line
       skipped = c around (suc (length ls))
+
       to : ℕ
       to = suc (length ls) + length skipped
+
       filled : s2 ≡ added skipped (Some (ls ++ waiting ∷ [])) → s3 ≡ added skipped (Some (ls ++ at_line line (jump to) ∷ []))
       filled e =
           lands.landed
@@ -117,6 +119,7 @@ module _ (around : Around) (line : ℕ) (jump : ℕ → Mid) (c : Code) (led : (
         where
           end : (ms : List Line) → s2 ≡ Some ms → length ms ≡ to
           end ms h = added-length skipped (ls ++ waiting ∷ []) ms (sym e ∙ h) ∙ ap (λ n. n + length skipped) (length-more ls waiting)
+
       by : (b : Bool) → s2 ≡ grown around c (if_room waiting ls b) → s3 ≡ added skipped (if_room (at_line line (jump to)) ls b)
       by true e = filled (e ∙ ap (λ n. added (c around n) (Some (ls ++ waiting ∷ []))) (length-more ls waiting))
       by false e = lands.landed ∙ ap (option_map (landed at lands.place)) e ∙ sym (added-none skipped)
@@ -135,9 +138,12 @@ module _ (around : Around) (line : ℕ) (jump : ℕ → Mid) (c : Code) (led : (
     where
       first : List Line
       first = c around (suc (length ls))
+
       to : ℕ
       to = suc (suc (length ls) + length first)
-      by : (b : Bool) → IsHere place (grown around c (if_room (at_line line (jump 0)) ls b)) → IsHere place (added first (if_room (at_line line (jump to)) ls b))
+
+      by : (b : Bool) → IsHere place (grown around c (if_room (at_line line (jump 0)) ls b)) → IsHere place
+          (added first (if_room (at_line line (jump to)) ls b))
       by true h =
           subst (IsHere place) (landed-added to first ls (at_line line (jump 0)) [] ∙ ap (λ l. added first (Some (ls ++ l ∷ []))) (led to))
           (here-landed place (length ls) to (added first (Some (ls ++ at_line line (jump 0) ∷ [])))
@@ -177,7 +183,8 @@ behind-both around line jump c d led at over s0 s2 s3 s4 s5 here is here-over la
   where
     both : (start : ℕ) → (first_way around line jump c led ⨟ jumped line mid.Jump d) around start ≡ parted line jump c d around start
     both start =
-        ap (λ n. at_line line (jump (suc (suc start + length (c around (suc start))))) ∷ (c around (suc start) ++ at_line line (mid.Jump (n + length (d around n))) ∷ d around n))
+        ap (λ n. at_line line (jump (suc (suc start + length (c around (suc start))))) ∷
+        (c around (suc start) ++ at_line line (mid.Jump (n + length (d around n))) ∷ d around n))
         (behind start (length (c around (suc start))))
       where
         behind : (start n : ℕ) → suc (start + suc n) ≡ suc (suc start + n)

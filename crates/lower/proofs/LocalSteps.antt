@@ -1,5 +1,5 @@
 -- Locals that begin, one after the other, as a loop over them does it.
-use Rattle.std.proofs.Common.{◌≡◌, ◌∙◌, ℕ, zero, suc, ◌+◌, ◌<◌, ◌≤◌, Bool, true, false, List, [], ◌∷◌, ◌++◌, length, map, get_or, drop, Result, Ok, Err, refl, sym, ap, subst, arith}
+use Rattle.std.proofs.Common.{◌≡◌, ◌∙◌, ℕ, suc, ◌+◌, ◌<◌, ◌≤◌, Bool, true, false, List, [], ◌∷◌, ◌++◌, length, map, get_or, drop, Result, Ok, Err, refl, sym, ap, subst, arith}
 use Rattle.std.specs.Prelude.{⊤, if◌then◌else◌}
 use Rattle.std.proofs.lemmas.List.{append-nil, append_assoc, length-append, drop_all}
 use Rattle.std.proofs.Math.Seq.{drop-cons}
@@ -20,13 +20,13 @@ use Rattle.c_typed.proofs.StatementViewLaws.{view_declaration, view_statement}
 use Rattle.source_meaning.specs.Statements.{locals_of, numbers_of}
 use Rattle.lower.specs.declared.body.Body.{Body}
 use Rattle.lower.specs.declared.refusal.LowerRefusal.{LowerRefusal}
-use Rattle.lower.specs.Emitting.{Code, ◌⨟◌, no_code, Around, Allotted, Made, Making, made, behind, and_then, ◌>>=◌, ◌>>◌, pure, emits, either, new, settles, kind_of}
+use Rattle.lower.specs.Emitting.{Code, ◌⨟◌, no_code, Allotted, Made, Making, made, behind, and_then, ◌>>=◌, ◌>>◌, pure, emits, either, new, settles, kind_of}
 use Rattle.lower.specs.Expressions.{Inside, row_at}
 use Rattle.lower.specs.Statements.{begun_at, opens, begins, begins_in_memory, begins_in_register, all_begin}
 use Rattle.lower.specs.Emits.{nothing}
 use Rattle.lower.specs.Runs.{Begins}
 use Rattle.lower.proofs.Steps.{first-of, second-of}
-use Rattle.lower.proofs.BeginSteps.{Sized, sized-then, sized-new, begin-step, begin-stop, begin-same, begin-at, begin-given}
+use Rattle.lower.proofs.BeginSteps.{Sized, sized-then, sized-new, begin-step, begin-stop, begin-given}
 
 -- ---- parts one after the other are the same in whatever way they are grouped
 
@@ -52,7 +52,8 @@ behind-then : {A B : Type 0} (c : Code) (r : Result (Made A) ℕ) (f : A → Mak
 behind-then c (Ok m) f = behind-behind c m.code (f m.given m.after)
 behind-then c (Err line) f = refl
 
-then-then : {A B C : Type 0} (r : Result (Made A) ℕ) (f : A → Making B) (g : B → Making C) → and_then (and_then r f) g ≡ and_then r (λ a allotted. and_then (f a allotted) g)
+then-then : {A B C : Type 0} (r : Result (Made A) ℕ) (f : A → Making B) (g : B → Making C) → and_then (and_then r f) g ≡ and_then r
+    (λ a allotted. and_then (f a allotted) g)
 then-then (Ok m) f g = behind-then m.code (f m.given m.after) g
 then-then (Err line) f g = refl
 
@@ -86,7 +87,8 @@ begins-register i n row kind is placed are =
     row-is i n row is ∙ second-of (begins_in_memory i row n) (begins_in_register i row n) placed
     ∙ ap (λ k. new k row.line >>= (λ r. settles n r >>= (λ done. emits row.first (mid.Const r 0)))) (sym are)
 
-pub begun-placed : (rows : List LocalRow) (n start : ℕ) (row : LocalRow) → row ≡ row_at rows n → row.is_placed ≡ true → begun_at rows start (n ∷ []) ≡ start ∷ []
+pub begun-placed : (rows : List LocalRow) (n start : ℕ) (row : LocalRow) → row ≡ row_at rows n → row.is_placed ≡ true → begun_at rows start
+    (n ∷ []) ≡ start ∷ []
 begun-placed rows n start row is placed =
     ap (λ (r : LocalRow). if r.is_placed then start ∷ [] else []) (sym is) ∙ ap (λ (b : Bool). if b then start ∷ [] else []) placed
 
@@ -96,13 +98,15 @@ begun-register rows n start row is placed =
 
 pub sized-opens : (line n count : ℕ) (allotted : Allotted) → Sized 1 (opens line n count allotted)
 sized-opens line n count allotted =
-    sized-then 0 1 (new Address line) (λ r. settles n r >>= (λ done. emits line (mid.Open r count) >>= (λ done. pure r))) allotted (sized-new Address line allotted) (λ r a.
+    sized-then 0 1 (new Address line) (λ r. settles n r >>= (λ done. emits line (mid.Open r count) >>= (λ done. pure r))) allotted
+    (sized-new Address line allotted) (λ r a.
     sized-then 0 1 (settles n r) (λ done. emits line (mid.Open r count) >>= (λ done. pure r)) a (λ around start. refl) (λ done b.
     sized-then 1 0 (emits line (mid.Open r count)) (λ done. pure r) b (λ around start. refl) (λ done e around start. refl)))
 
 sized-memory : (i : Inside) (row : LocalRow) (n : ℕ) (allotted : Allotted) → Sized 1 (begins_in_memory i row n allotted)
 sized-memory i row n allotted =
-    sized-then 1 0 (opens row.line n (cells_of row.type.type)) (λ r. pure tt) allotted (sized-opens row.line n (cells_of row.type.type) allotted) (λ r a around start. refl)
+    sized-then 1 0 (opens row.line n (cells_of row.type.type)) (λ r. pure tt) allotted (sized-opens row.line n (cells_of row.type.type) allotted)
+    (λ r a around start. refl)
 
 sized-register : (i : Inside) (row : LocalRow) (n : ℕ) (allotted : Allotted) → Sized 1 (begins_in_register i row n allotted)
 sized-register i row n allotted =
@@ -118,7 +122,8 @@ sized-either false m n allotted first second = second
 pub sized-begins : (i : Inside) (n : ℕ) (allotted : Allotted) → Sized 1 (begins i n allotted)
 sized-begins i n allotted =
     let row = row_at i.rows n in
-    sized-either row.is_placed (begins_in_memory i row n) (begins_in_register i row n) allotted (sized-memory i row n allotted) (sized-register i row n allotted)
+    sized-either row.is_placed (begins_in_memory i row n) (begins_in_register i row n) allotted (sized-memory i row n allotted)
+    (sized-register i row n allotted)
 
 one-plus : (n : ℕ) → 1 + n ≡ suc n
 one-plus n = omega arith
@@ -137,7 +142,8 @@ suc-plus start k = omega arith
 start-one : (start : ℕ) → suc start ≡ start + 1
 start-one start = omega arith
 
-pub begun-both : (rows : List LocalRow) (start : ℕ) (ns ms : List ℕ) → begun_at rows start (ns ++ ms) ≡ begun_at rows (start + length ns) ms ++ begun_at rows start ns
+pub begun-both : (rows : List LocalRow) (start : ℕ) (ns ms : List ℕ) → begun_at rows start (ns ++ ms) ≡ begun_at rows
+    (start + length ns) ms ++ begun_at rows start ns
 begun-both rows start [] ms = ap (λ k. begun_at rows k ms) (sym (plus-zero start)) ∙ sym (append-nil (begun_at rows (start + 0) ms))
 begun-both rows start (n ∷ ns) ms =
     let here : List ℕ = if (row_at rows n).is_placed then start ∷ [] else [] in
@@ -159,7 +165,8 @@ module _ (i : Inside) (rows : List Row) (old mid new : Body) where
       → Begins nothing rows (λ start. begun_at i.rows start all) old new r (all_begin i all)
   lists-begin {r} ns ms all is first next =
       subst (λ (l : List ℕ). Begins nothing rows (λ start. begun_at i.rows start l) old new r (all_begin i l)) (sym is)
-      (begin-step {first = λ start. begun_at i.rows start ns} {rest = λ start. begun_at i.rows start ms} (λ done. all_begin i ms) (length ns) (all-both i ns ms) (sized-all i ns)
+      (begin-step {first = λ start. begun_at i.rows start ns} {rest = λ start. begun_at i.rows start ms} (λ done. all_begin i ms) (length ns)
+      (all-both i ns ms) (sized-all i ns)
       (λ start. begun-both i.rows start ns ms) first next)
 
   pub lists-stop : {r : Result ⊤ LowerRefusal} {e : LowerRefusal} (ns ms all : List ℕ) → all ≡ ns ++ ms → r ≡ Err e
@@ -176,7 +183,8 @@ module _ (i : Inside) (rows : List Row) (old mid new : Body) where
       → Begins nothing rows (λ start. begun_at i.rows start all) old new r (all_begin i all)
   one-begins {r} n ms all is first next =
       subst (λ (l : List ℕ). Begins nothing rows (λ start. begun_at i.rows start l) old new r (all_begin i l)) (sym is)
-      (begin-step {first = λ start. begun_at i.rows start (n ∷ [])} {rest = λ start. begun_at i.rows start ms} (λ done. all_begin i ms) 1 refl (sized-begins i n)
+      (begin-step {first = λ start. begun_at i.rows start (n ∷ [])} {rest = λ start. begun_at i.rows start ms} (λ done. all_begin i ms) 1 refl
+      (sized-begins i n)
       (λ start. ap (λ k. begun_at i.rows k ms ++ begun_at i.rows start (n ∷ [])) (start-one start)) first next)
 
   pub one-stops : {r : Result ⊤ LowerRefusal} {e : LowerRefusal} (n : ℕ) (ms all : List ℕ) → all ≡ n ∷ ms → r ≡ Err e

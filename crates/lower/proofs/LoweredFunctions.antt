@@ -57,8 +57,10 @@ module _ {K : Type 0} (keys : K → List TypeRef) (rows : List Row) where
     types = types;
     are = are;
     continues =
-        record { then = λ new result h. subst (λ (l : List Function). GivesFunctions keys rows start new
-        (lowered_functions program part l types) result) is h };
+        record {
+          then = λ new result h. subst (λ (l : List Function). GivesFunctions keys rows start new
+              (lowered_functions program part l types) result) is h;
+        };
   }
 
   pub memory-gives : (old new : List MidFunction) (whole : Result (List Lowered × List CType) LowerRefusal) (told : LowerRefusal) → told ≡ Memory

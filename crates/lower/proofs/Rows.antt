@@ -1,5 +1,5 @@
 -- What a value, a place and values of the code's tree are lowered to, a constructor at a time.
-use Rattle.std.proofs.Common.{◌≡◌, ℕ, suc, Bool as Test, true, false, List, [], ◌∷◌, map, refl, sym, ◌∙◌, ap}
+use Rattle.std.proofs.Common.{◌≡◌, ℕ, suc, Bool as Test, true, false, List, map, sym, ◌∙◌, ap}
 use Rattle.srmt_base.specs.declared.op.Op.{Op}
 use Rattle.srmt_base.specs.declared.ty.Ty.{Ty}
 use Rattle.c_types.specs.declared.type_ref.TypeRef.{TypeRef}
@@ -16,7 +16,7 @@ use Rattle.c_typed.specs.Typed as tree
 use Rattle.c_typed.specs.Typed.{place, PlaceNode, value, ValueNode, type_of}
 use Rattle.c_typed.specs.Views.{value_view, place_view, value_node_view, place_node_view, qualified_from, values_from}
 use Rattle.c_typed.proofs.ViewLaws as view
-use Rattle.lower.specs.Emitting.{Making, ◌>>=◌, ◌>>◌, pure, free_behind, home_of}
+use Rattle.lower.specs.Emitting.{Making, ◌>>=◌, pure, free_behind, home_of}
 use Rattle.lower.specs.declared.inside.Where.{Where as CodeWhere}
 use Rattle.lower.specs.declared.inside.Where.TheVariants as code_where
 use Rattle.lower.specs.Emits.{where_view}
@@ -38,13 +38,15 @@ module _ (i : Inside) (types : TypeRef → CType) where
   by-node : (x : v.Value) (n : code_node.ValueNode) (m : ValueNode) (k : ℕ) → x.node ≡ n → value_node_view types n ≡ m
       → Lowered x k ≡ value_of i (value x.line (types x.ty) m) k
   by-node x n m k is views =
-      ap (λ z. value_of i z k) (view.view_value types x ∙ ap (λ z. value x.line (types x.ty) (value_node_view types z)) is ∙ ap (value x.line (types x.ty)) views)
+      ap (λ z. value_of i z k) (view.view_value types x ∙ ap (λ z. value x.line (types x.ty) (value_node_view types z)) is ∙ ap
+      (value x.line (types x.ty)) views)
 
   by-place : (x : p.Place) (n : code_place_node.PlaceNode) (m : PlaceNode) (k : ℕ) → x.node ≡ n → place_node_view types n ≡ m
       → Addressed x k ≡ address_of i (place x.line (qualified_from types x.ty) m) k
   by-place x n m k is views =
       ap (λ z. address_of i z k)
-      (view.view_place types x ∙ ap (λ z. place x.line (qualified_from types x.ty) (place_node_view types z)) is ∙ ap (place x.line (qualified_from types x.ty)) views)
+      (view.view_place types x ∙ ap (λ z. place x.line (qualified_from types x.ty) (place_node_view types z)) is ∙ ap
+      (place x.line (qualified_from types x.ty)) views)
 
   -- ---- places
 
@@ -153,7 +155,8 @@ module _ (i : Inside) (types : TypeRef → CType) where
       → Lowered x k ≡ (Lowered a k >>= (λ y. Lowered b free >>= (λ z. moves_pointer x.line at is_less first (types a'.ty) (types b'.ty) y z)))
   unfolding value_of
   sum-row x at is_less first a b a' b' a'' k free is is-a is-b is-a'' is-free =
-      by-node x (vn.Sum at is_less first a b) (tree.sum at is_less first (value_view types a) (value_view types b)) k is (view.view_sum types at is_less first a b)
+      by-node x (vn.Sum at is_less first a b) (tree.sum at is_less first (value_view types a) (value_view types b)) k is
+      (view.view_sum types at is_less first a b)
       ∙ (λ j. Lowered a k >>= (λ y. Lowered b (free_behind (tc j) k) >>= (λ z. moves_pointer x.line at is_less first (ta j) (tb j) y z)))
       ∙ ap (λ z. Lowered a k >>= (λ y. Lowered b z >>= (λ z. moves_pointer x.line at is_less first (types a'.ty) (types b'.ty) y z))) (sym is-free)
     where
@@ -274,7 +277,8 @@ module _ (i : Inside) (types : TypeRef → CType) where
       >>= called_through (types x.ty) (target_of (types f.ty)).type x.line at k callee))
   unfolding value_of
   call_through-row x at e f es k free is same is-free =
-      by-node x (vn.CallThrough at e es) (tree.call_through at (value_view types e) (values_from (map (value_view types) es))) k is (view.view_call_through types at e es)
+      by-node x (vn.CallThrough at e es) (tree.call_through at (value_view types e) (values_from (map (value_view types) es))) k is
+      (view.view_call_through types at e es)
       ∙ (λ j. Lowered e k >>= (λ callee. values_in i (values_from (map (value_view types) es)) (sym is-free j)
       >>= called_through (types x.ty) (target_of (known j)).type x.line at k callee))
     where

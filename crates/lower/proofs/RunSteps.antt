@@ -1,15 +1,14 @@
 -- What statements lowered one after another make, as what calls emit makes what the whole emits.
-use Rattle.std.proofs.Common.{◌≡◌, ℕ, List, [], ◌∷◌, ◌++◌, reverse, Bool, true, false, Result, Ok, Err, refl, sym, ◌∙◌, ap, subst}
-use Rattle.std.specs.Prelude.{⊤}
+use Rattle.std.proofs.Common.{◌≡◌, ℕ, List, ◌++◌, reverse, Result, Ok, Err, refl, sym, ◌∙◌, ap, subst}
 use Rattle.c_types.specs.declared.type_ref.Row.{Row}
 use Rattle.lower.specs.declared.body.Body.{Body}
 use Rattle.lower.specs.declared.emitter.Emitter.{Emitter}
 use Rattle.lower.specs.declared.refusal.LowerRefusal.{LowerRefusal}
 use Rattle.lower.specs.declared.refusal.LowerRefusal.TheVariants.{TooManyRegisters, TooLong, Memory}
-use Rattle.lower.specs.Emitting.{Code, ◌⨟◌, Around, Allotted, Made, Making, made, behind, and_then, ◌>>=◌, pure}
+use Rattle.lower.specs.Emitting.{Code, ◌⨟◌, Made, Making, behind, and_then, ◌>>=◌, pure}
 use Rattle.lower.specs.SoFar.{Leads, leads_of, grown}
 use Rattle.lower.specs.Drafts.{code_of}
-use Rattle.lower.specs.Emits.{AllStand, allotted_view, Grows, Makes, EmitsAs, Emits}
+use Rattle.lower.specs.Emits.{AllStand, allotted_view, Makes, EmitsAs, Emits}
 use Rattle.lower.specs.Runs.{around_of, SameObjects, GrowsAround, MakesAround, RunsAs, Runs}
 use Rattle.lower.proofs.Growing.{grown-behind, grown-none}
 
@@ -41,7 +40,8 @@ module _ {A B Y : Type 0} (next_view : Y → B) (rows : List Row) (old mid new :
   made-then a f y c (Err line) same first next = absurd next
 
   given-then : (a : A) (f : A → Making B) (y : Y) (c : Result (Made A) ℕ)
-      → MakesAround rows c a old mid → (AllStand rows mid.out.allotted.types.keys → MakesAround rows (f a (allotted_view rows mid.out.allotted)) (next_view y) mid new)
+      → MakesAround rows c a old mid → (AllStand rows mid.out.allotted.types.keys → MakesAround rows (f a (allotted_view rows mid.out.allotted))
+      (next_view y) mid new)
       → MakesAround rows (and_then c f) (next_view y) old new
   given-then a f y (Ok c) first next =
       made-then a f y c (f c.given c.after) first.2 first.3
@@ -112,7 +112,10 @@ made-runs rows old new a (Err line) same h = h
 pub emitted-runs : {X A : Type 0} {view : X → A} {rows : List Row} {old new : Body} {out out' : Emitter} {r : Result X LowerRefusal} {m : Making A}
     → SameObjects old new → old.out ≡ out → new.out ≡ out' → Emits view rows out out' r m → Runs view rows old new r m
 emitted-runs {X} {A} {view} {rows} {old} {new} {out} {out'} {r} {m} same before after h =
-    record { is = by r (subst (λ (o : Emitter). EmitsAs view rows o new.out r m) (sym before) (subst (λ (o : Emitter). EmitsAs view rows out o r m) (sym after) h.is)) }
+    record {
+      is = by r (subst (λ (o : Emitter). EmitsAs view rows o new.out r m) (sym before)
+          (subst (λ (o : Emitter). EmitsAs view rows out o r m) (sym after) h.is));
+    }
   where
     by : (s : Result X LowerRefusal) → EmitsAs view rows old.out new.out s m → RunsAs view rows old new s m
     by (Ok x) h = λ stand. made-runs rows old new (view x) (m (allotted_view rows old.out.allotted)) same (h stand)

@@ -107,7 +107,8 @@ module _ (i : Inside) (types : TypeRef → CType) (x : code_stmt.Stmt) where
 module _ (i : Inside) (types : TypeRef → CType) (line : ℕ) (head : ForHead) (a : Stmt) where
   by_start : (s : CodeForStart) → head.start ≡ s → lowers i (for_of types line head a)
       ≡ lowers i (tree.for line (for_start_view types s) (option_map (value_view types) head.test) (option_map (value_view types) head.step) a)
-  by_start s is = ap (λ z. lowers i (tree.for line (for_start_view types z) (option_map (value_view types) head.test) (option_map (value_view types) head.step) a)) is
+  by_start s is = ap (λ z. lowers i (tree.for line (for_start_view types z) (option_map (value_view types) head.test)
+      (option_map (value_view types) head.step) a)) is
 
   pub first-row : (first : Option v.Value) → head.start ≡ fs.Value first → lowers i (for_of types line head a)
       ≡ (done i (option_map (value_view types) first)

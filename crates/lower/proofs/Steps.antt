@@ -1,14 +1,13 @@
 -- What calls emitted one after another makes what the whole emits.
-use Rattle.std.proofs.Common.{◌≡◌, ℕ, List, [], ◌∷◌, Bool, true, false, Result, Ok, Err, refl, sym, ◌∙◌, ap, subst}
-use Rattle.std.specs.Prelude.{⊤, All}
+use Rattle.std.proofs.Common.{◌≡◌, ℕ, List, Bool, true, false, Result, Ok, Err, refl, sym, ◌∙◌, ap, subst}
 use Rattle.std.specs.Result.{IsErrAnd}
 use Rattle.std.proofs.lemmas.Result.{err_from_is_err_and}
 use Rattle.c_types.specs.declared.type_ref.Row.{Row}
 use Rattle.lower.specs.declared.emitter.Emitter.{Emitter}
 use Rattle.lower.specs.declared.refusal.LowerRefusal.{LowerRefusal}
 use Rattle.lower.specs.declared.refusal.LowerRefusal.TheVariants.{TooManyRegisters, TooLong, Memory}
-use Rattle.lower.specs.Emitting.{Code, ◌⨟◌, Around, Allotted, Made, Making, made, behind, and_then, ◌>>=◌, pure, either}
-use Rattle.lower.specs.SoFar.{Leads, grown}
+use Rattle.lower.specs.Emitting.{Made, Making, behind, and_then, ◌>>=◌, pure, either}
+use Rattle.lower.specs.SoFar.{grown}
 use Rattle.lower.specs.Drafts.{code_of}
 use Rattle.lower.specs.Emits.{AllStand, allotted_view, Grows, Makes, EmitsAs, Emits}
 use Rattle.lower.proofs.Growing.{grown-behind, grown-none}
@@ -20,7 +19,8 @@ pub exits : {T : Type 0} (r : Result T LowerRefusal) (e : LowerRefusal) → IsEr
 exits r e h = let p = err_from_is_err_and r h in p.1 ∙ ap Err p.2
 
 -- want of memory is always an answer
-pub memory : {X A : Type 0} {view : X → A} {rows : List Row} {old new : Emitter} {r : Result X LowerRefusal} {m : Making A} → r ≡ Err Memory → Emits view rows old new r m
+pub memory : {X A : Type 0} {view : X → A} {rows : List Row} {old new : Emitter} {r : Result X LowerRefusal} {m : Making A} → r ≡ Err Memory
+    → Emits view rows old new r m
 memory {X} {A} {view} {rows} {old} {new} {r} {m} e = record { is = subst (λ s. EmitsAs view rows old new s m) (sym e) tt }
 
 -- ---- steps
@@ -28,9 +28,13 @@ memory {X} {A} {view} {rows} {old} {new} {r} {m} e = record { is = subst (λ s. 
 module _ {A B Y : Type 0} (next_view : Y → B) (rows : List Row) (old mid new : Emitter) where
   made-then : (a : A) (f : A → Making B) (y : Y) (c : Made A) (d : Result (Made B) ℕ)
       → Grows c.code (code_of old.code) (code_of mid.code) → Makes rows d (next_view y) mid new → Makes rows (behind c.code d) (next_view y) old new
-  made-then a f y c (Ok m) first next =
-      (next.0, next.1, (λ leads around. next.2 leads around ∙ ap (grown around m.code) (first leads around)
-      ∙ grown-behind around c.code m.code (code_of old.code leads)), next.3)
+  made-then a f y c (Ok m) first next = (
+    next.0,
+    next.1,
+    (λ leads around. next.2 leads around ∙ ap (grown around m.code) (first leads around)
+        ∙ grown-behind around c.code m.code (code_of old.code leads)),
+    next.3,
+  )
   made-then a f y c (Err line) first next = absurd next
 
   given-then : (a : A) (f : A → Making B) (y : Y) (c : Result (Made A) ℕ)

@@ -65,11 +65,13 @@ module _ (i : Inside) (types : TypeRef → CType) (rows : List Row) where
   -- whatever the rest emits, all emits with it
   abbrev pub Continues : List v.Value → ℕ → Emitter → List v.Value → ℕ → ℕ → Emitter → List ℕ → Type 0
   Continues es k initial items index free now found =
-      (new : Emitter) (r : Numbers) → Emits listed rows now new r (Values (drop index items) free) → Emits listed rows initial new (before found r) (Values es k)
+      (new : Emitter) (r : Numbers) → Emits listed rows now new r (Values (drop index items) free) → Emits listed rows initial new (before found r)
+      (Values es k)
 
   abbrev pub Drops : Emitter → List v.Value → ℕ → ℕ → Emitter → Type 0
   Drops initial items k index now =
-      (new : Emitter) (r : Result ⊤ LowerRefusal) → Emits nothing rows now new r (Dropped (drop index items) k) → Emits nothing rows initial new r (Dropped items k)
+      (new : Emitter) (r : Result ⊤ LowerRefusal) → Emits nothing rows now new r (Dropped (drop index items) k) → Emits nothing rows initial new r
+      (Dropped items k)
 
   -- ---- rows
 

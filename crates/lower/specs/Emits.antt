@@ -1,5 +1,5 @@
 -- What making code does to a function that is being lowered: registers are allotted, and its code grows.
-use Rattle.std.specs.Prelude.{◌≡◌, ◌==◌, ℕ, Bool, true, false, List, [], ◌∷◌, ◌++◌, map, All, Result, Ok, Err, ⊤}
+use Rattle.std.specs.Prelude.{◌≡◌, ◌==◌, ℕ, List, [], ◌∷◌, map, All, Result, Ok, Err, ⊤}
 use Rattle.mid_code.specs.declared.mid.Mid.{Mid}
 use Rattle.c_types.specs.declared.type_ref.TypeRef.{TypeRef}
 use Rattle.c_types.specs.Types.{CType}

@@ -12,13 +12,13 @@ use Rattle.mid_code.specs.declared.mid.Mid.{Mid}
 use Rattle.mid_code.specs.declared.mid.Mid.TheVariants as mid
 use Rattle.mid_code.specs.declared.program.RegisterKind.TheVariants.{Address}
 use Rattle.c_types.specs.Types.{CType, Qualified, void, unqualified, ty_of, target_of, is_object_pointer, is_function_pointer}
-use Rattle.c_typed.specs.Typed.{Place, place, local, static, text, pointed, element, Value, value, constant, null, read, first_element, address, function, minus, complement, negation, arithmetic, sum, difference, comparison, conjunction, disjunction, choice, sequence, assignment, update, move, conversion, to_bool, requalified, discarded, call, call_through, putchar, getchar, exit, Values, no_values, first_value, type_of, place_type}
-use Rattle.c_typed.specs.Statements.{Function, LocalRow, Program}
+use Rattle.c_typed.specs.Typed.{Place, place, local, static, text, pointed, element, Value, value, constant, null, read, first_element, address, function, minus, complement, negation, arithmetic, sum, difference, comparison, conjunction, disjunction, choice, sequence, assignment, update, move, conversion, to_bool, requalified, discarded, call, call_through, putchar, getchar, exit, Values, no_values, first_value, type_of}
+use Rattle.c_typed.specs.Statements.{LocalRow, Program}
 use Rattle.c_typed.specs.declared.program.Numbered.{Numbered}
 use Rattle.c_typed.specs.declared.program.Numbered.TheVariants as numbered
 use Rattle.source_meaning.specs.Places.{file_of}
 use Rattle.source_meaning.specs.Expressions.{scale_of}
-use Rattle.lower.specs.Emitting.{Instruction, calls, calls_through, Line, Code, one_at, jumped, Making, ◌>>=◌, ◌>>◌, pure, emits, emits_code, wrapped, two_ways, either, new, temporary, target_for, free_behind, home_of, type_number}
+use Rattle.lower.specs.Emitting.{Instruction, calls, calls_through, one_at, jumped, Making, ◌>>=◌, ◌>>◌, pure, emits, emits_code, wrapped, two_ways, either, new, temporary, target_for, free_behind, home_of, type_number}
 
 -- what is fixed in a function: the program, its part, and its table of locals
 pub record Inside : Type 0 where

@@ -1,15 +1,11 @@
 -- What lowering functions gives, and that it is what was to be lowered.
-use Rattle.std.specs.Prelude.{◌≡◌, ◌⊎◌, ℕ, List, [], ◌∷◌, ◌++◌, map, replicate, Option, Some, Result, Ok, Err}
-use Rattle.std.specs.declared.alloc.Global.{Global}
-use Rattle.std.specs.declared.vec.Vec.{Vec}
-use Rattle.srmt_base.specs.declared.part.Part.{Part}
+use Rattle.std.specs.Prelude.{◌≡◌, ◌⊎◌, ℕ, List, [], ◌++◌, map, replicate, Some, Result, Ok, Err}
 use Rattle.mid_code.specs.declared.program.MidFunction.{MidFunction}
 use Rattle.mid_code.specs.declared.program.MidProgram.{MidProgram}
 use Rattle.c_types.specs.declared.type_ref.TypeRef.{TypeRef}
 use Rattle.c_types.specs.declared.type_ref.Row.{Row}
 use Rattle.c_types.specs.Types.{CType}
 use Rattle.c_types.specs.Table.{type_at}
-use Rattle.c_typed.specs.Statements.{Function, Program}
 use Rattle.lower.specs.Drafts.{code_of}
 use Rattle.lower.specs.declared.functions.Lowered.{Lowered as CodeLowered}
 use Rattle.lower.specs.declared.refusal.LowerRefusal.{LowerRefusal}

@@ -17,4 +17,3 @@ line_view l = record { line = l.line; instruction = instruction_view l.mid }
 -- the line of an instruction
 abbrev pub told : ℕ → Mid → Line
 told line m = record { line = line; instruction = instruction_view m }
-

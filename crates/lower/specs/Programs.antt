@@ -1,5 +1,5 @@
 -- Functions and programs: what each is lowered to, or why it is refused.
-use Rattle.std.specs.Prelude.{◌≡◌, ℕ, zero, suc, ◌+◌, ◌<◌, nat_lt, ◌==◌, Bool, true, false, if◌then◌else◌, List, [], ◌∷◌, ◌++◌, length, map, replicate, reverse, Result, Ok, Err, ⊤}
+use Rattle.std.specs.Prelude.{◌≡◌, ℕ, suc, nat_lt, ◌==◌, Bool, true, false, if◌then◌else◌, List, [], ◌∷◌, ◌++◌, length, map, replicate, Result, Ok, Err}
 use Rattle.srmt_base.specs.declared.part.Part.{Part}
 use Rattle.srmt_base.specs.declared.part.Part.TheVariants.{Protected, Binary}
 use Rattle.srmt_base.specs.declared.statics.Static.{Static as StartingObject}
@@ -10,15 +10,13 @@ use Rattle.mid_code.specs.declared.program.MidProgram.{MidProgram}
 use Rattle.mid_code.specs.declared.program.MidFunction.{MidFunction}
 use Rattle.mid_code.specs.declared.program.MidLine.{MidLine}
 use Rattle.mid_code.specs.declared.program.RegisterKind.{RegisterKind}
-use Rattle.mid_code.specs.declared.program.RegisterKind.TheVariants.{Number, Address}
 use Rattle.mid_code.specs.Registers.{registers_list}
-use Rattle.c_types.specs.Types.{CType, is_object_pointer, parameters_of, result_of}
-use Rattle.c_typed.specs.Statements.{LocalRow, Function, Program, TypedFile}
-use Rattle.source_meaning.specs.Places.{file_of}
+use Rattle.c_types.specs.Types.{CType, parameters_of, result_of}
+use Rattle.c_typed.specs.Statements.{LocalRow, Function, Program}
 use Rattle.source_meaning.specs.Calls.{numbers_below}
 use Rattle.source_meaning.specs.Start.{objects_at_start}
 use Rattle.source_meaning.specs.Statements.{locals_of}
-use Rattle.lower.specs.Emitting.{Instruction, plain, calls, calls_through, Line, Code, Around, at_line, Allotted, Made, Making, ◌>>=◌, ◌>>◌, pure, emits, emits_code, wrapped, either, new, temporary, target_for, kind_of, settles, with_type, type_number}
+use Rattle.lower.specs.Emitting.{Instruction, plain, calls, calls_through, Line, Code, Around, Allotted, Made, Making, ◌>>=◌, ◌>>◌, pure, emits, emits_code, wrapped, either, new, temporary, kind_of, settles, with_type, type_number}
 use Rattle.lower.specs.SoFar.{most_instructions}
 use Rattle.lower.specs.Expressions.{Inside, row_at, number_of, zero_for}
 use Rattle.lower.specs.Statements.{closes, living, opens, all_begin, in_block, lowers_items}

@@ -1,13 +1,13 @@
 -- What lowering a statement does to a function that is being lowered: where `break` and `continue` lead depends on the
 -- loops that are open, and which objects end depends on those that live.
-use Rattle.std.specs.Prelude.{◌≡◌, ℕ, List, [], ◌∷◌, ◌++◌, length, reverse, Option, Some, None, Result, Ok, Err, ⊤}
+use Rattle.std.specs.Prelude.{◌≡◌, ℕ, List, ◌++◌, length, reverse, Some, None, Result, Ok, Err, ⊤}
 use Rattle.c_types.specs.declared.type_ref.Row.{Row}
 use Rattle.lower.specs.Drafts.{code_of}
 use Rattle.lower.specs.declared.body.Body.{Body}
 use Rattle.lower.specs.declared.refusal.LowerRefusal.{LowerRefusal}
 use Rattle.lower.specs.declared.refusal.LowerRefusal.TheVariants.{TooManyRegisters, TooLong, Memory}
 use Rattle.lower.specs.Emitting.{Code, Around, Made, Making}
-use Rattle.lower.specs.SoFar.{Leads, leads_of, Lines, SoFar, grown}
+use Rattle.lower.specs.SoFar.{Leads, leads_of, Lines, grown}
 use Rattle.lower.specs.Emits.{allotted_view, AllStand, Grows}
 
 -- what stands around: the objects that live are listed the newest first
@@ -30,7 +30,8 @@ GrowsAround c old new = (leads : List Leads) → code_of new.out.code leads ≡ 
 abbrev pub MakesAround : {A : Type 0} → List Row → Result (Made A) ℕ → A → Body → Body → Type 0
 MakesAround rows (Err line) a old new = ⊥
 MakesAround rows (Ok m) a old new =
-    (m.given ≡ a) × (m.after ≡ allotted_view rows new.out.allotted) × SameObjects old new × GrowsAround m.code old new × AllStand rows new.out.allotted.types.keys
+    (m.given ≡ a) × (m.after ≡ allotted_view rows new.out.allotted) × SameObjects old new × GrowsAround m.code old new
+    × AllStand rows new.out.allotted.types.keys
 
 -- this making is done with the objects that live, which stay, or there are too many registers at the line, or want of memory
 abbrev pub RunsAs : {A B : Type 0} → (B → A) → List Row → Body → Body → Result B LowerRefusal → Making A → Type 0
@@ -72,5 +73,6 @@ BeginsAs view rows begun old new (Err (TooManyRegisters line)) m =
 BeginsAs view rows begun old new (Err (TooLong line)) m = ⊥
 BeginsAs view rows begun old new (Err Memory) m = ⊤
 
-pub record Begins {A B : Type 0} (view : B → A) (rows : List Row) (begun : ℕ → List ℕ) (old new : Body) (result : Result B LowerRefusal) (m : Making A) : Type 0 where
+pub record Begins {A B : Type 0} (view : B → A) (rows : List Row) (begun : ℕ → List ℕ) (old new : Body) (result : Result B LowerRefusal)
+    (m : Making A) : Type 0 where
   pub is : BeginsAs view rows begun old new result m

@@ -2,9 +2,9 @@
 --
 -- The places to which `break` and `continue` of the loops that are open lead are not known yet: the code is a function of
 -- them. Code that is too long is forgotten.
-use Rattle.std.specs.Prelude.{◌≡◌, ◌≤◌, ℕ, zero, suc, nat_lt, Bool, true, false, List, [], ◌∷◌, ◌++◌, length, map, Option, Some, None, option_map, ⊤}
+use Rattle.std.specs.Prelude.{◌≡◌, ◌≤◌, ℕ, zero, suc, nat_lt, Bool, true, false, List, [], ◌∷◌, ◌++◌, length, Option, Some, None}
 use Rattle.mid_code.specs.declared.mid.Mid.TheVariants as mid
-use Rattle.lower.specs.Emitting.{Instruction, plain, Line, at_line, Code, Around}
+use Rattle.lower.specs.Emitting.{Instruction, plain, Line, Code, Around}
 
 -- a function has at most 65,535 instructions
 abbrev pub most_instructions : ℕ

@@ -1,15 +1,15 @@
 -- Statements: what each construct is lowered to. Temporaries are free again at each of them.
-use Rattle.std.specs.Prelude.{ℕ, zero, suc, ◌+◌, ◌*◌, Bool, true, false, if◌then◌else◌, List, [], ◌∷◌, ◌++◌, length, map, Option, Some, None}
+use Rattle.std.specs.Prelude.{ℕ, zero, suc, ◌+◌, false, if◌then◌else◌, List, [], ◌∷◌, ◌++◌, length, Option, Some, None}
 use Rattle.srmt_base.specs.declared.ty.Ty.TheVariants.{UInt}
 use Rattle.mid_code.specs.declared.mid.Mid.{Mid}
 use Rattle.mid_code.specs.declared.mid.Mid.TheVariants as mid
-use Rattle.mid_code.specs.declared.program.RegisterKind.TheVariants.{Number, Address}
-use Rattle.c_types.specs.Types.{CType, is_object_pointer, cells_of}
+use Rattle.mid_code.specs.declared.program.RegisterKind.TheVariants.{Address}
+use Rattle.c_types.specs.Types.{cells_of}
 use Rattle.c_typed.specs.Typed.{Value}
-use Rattle.c_typed.specs.Statements.{Cell, Initializer, scalar, cells, LocalItem, LocalRow, ForStart, starts, declares, Stmt, block, empty, expression, if_only, if_else, while, do_while, for, continue, break, return, Items, no_items, declaration, statement}
+use Rattle.c_typed.specs.Statements.{Cell, Initializer, scalar, cells, LocalItem, LocalRow, starts, declares, Stmt, block, empty, expression, if_only, if_else, while, do_while, for, continue, break, return, Items, no_items, declaration, statement}
 use Rattle.source_meaning.specs.Statements.{numbers_of, locals_of}
 use Rattle.lower.specs.Emitting.{Line, Code, Around, at_line, jumped, Making, ◌>>=◌, ◌>>◌, pure, emits, emits_code, wrapped, apart, two_ways, either, new, temporary, kind_of, home_of, settles}
-use Rattle.lower.specs.Expressions.{Inside, row_at, where_is, locates, puts, value_of}
+use Rattle.lower.specs.Expressions.{Inside, row_at, value_of}
 
 -- ---- the locals of a block
 

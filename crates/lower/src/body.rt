@@ -74,9 +74,7 @@ impl Body {
 
     /// All objects of the function end, the newest first.
     pub(crate) fn close_all(&mut self, line: u32) -> Result<(), LowerRefusal>
-        ensures {
-            (rows : List Row) → Runs nothing rows self.old self.new result (emits_code (λ around start. closes line around.in_function))
-        }
+        ensures { (rows : List Row) → Runs nothing rows self.old self.new result (emits_code (λ around start. closes line around.in_function)) }
     {
         close(&mut self.out, &self.objects, line)?;
         close(&mut self.out, &self.outside, line)?;

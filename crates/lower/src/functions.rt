@@ -44,10 +44,8 @@ fn stand_argument(at: Inside, out: &mut Emitter, number: usize) -> Result<(), Lo
 
 /// The arguments stand in the first registers.
 fn stand_arguments(at: Inside, out: &mut Emitter) -> Result<(), LowerRefusal>
-    ensures {
-        Emits nothing (rows_of at.entry) out.old out.new result
-            (arguments_stand (inside_view at.entry) (numbers_below at.entry.function.now.parameters))
-    }
+    ensures { Emits nothing (rows_of at.entry) out.old out.new result
+        (arguments_stand (inside_view at.entry) (numbers_below at.entry.function.now.parameters)) }
 {
     for number in 0..at.function.parameters {
         stand_argument(at, out, number as usize)?;
@@ -57,10 +55,8 @@ fn stand_arguments(at: Inside, out: &mut Emitter) -> Result<(), LowerRefusal>
 
 /// A parameter in memory is an object that takes its argument (C11 6.5.2.2p4).
 fn begin_parameter(at: Inside, body: &mut Body, number: usize) -> Result<(), LowerRefusal>
-    ensures {
-        Begins nothing (rows_of at.entry) (λ start. parameters_at (inside_view at.entry).rows start (number ∷ [])) body.old body.new result
-            (parameter_begins (inside_view at.entry) number)
-    }
+    ensures { Begins nothing (rows_of at.entry) (λ start. parameters_at (inside_view at.entry).rows start (number ∷ [])) body.old body.new result
+        (parameter_begins (inside_view at.entry) number) }
 {
     let row = at.row(number);
     if row.is_placed {
@@ -75,11 +71,9 @@ fn begin_parameter(at: Inside, body: &mut Body, number: usize) -> Result<(), Low
 
 /// The parameters begin, in order.
 fn begin_parameters(at: Inside, body: &mut Body) -> Result<(), LowerRefusal>
-    ensures {
-        Begins nothing (rows_of at.entry)
-            (λ start. parameters_at (inside_view at.entry).rows start (numbers_below at.entry.function.now.parameters)) body.old body.new
-            result (parameters_begin (inside_view at.entry) (numbers_below at.entry.function.now.parameters))
-    }
+    ensures { Begins nothing (rows_of at.entry)
+        (λ start. parameters_at (inside_view at.entry).rows start (numbers_below at.entry.function.now.parameters)) body.old body.new
+        result (parameters_begin (inside_view at.entry) (numbers_below at.entry.function.now.parameters)) }
 {
     for number in 0..at.function.parameters {
         begin_parameter(at, body, number as usize)?;
@@ -98,10 +92,8 @@ fn leave_main(out: &mut Emitter, line: u32) -> Result<(), LowerRefusal>
 
 /// The objects of the parameters end, and 0 is returned.
 fn leave(at: Inside, body: &mut Body, line: u32) -> Result<(), LowerRefusal>
-    ensures {
-        Runs nothing (rows_of at.entry) body.old body.new result
-            (leaves_at line (result_of (types_of at.entry at.entry.function.now.ty)))
-    }
+    ensures { Runs nothing (rows_of at.entry) body.old body.new result
+        (leaves_at line (result_of (types_of at.entry at.entry.function.now.ty))) }
 {
     body.close_all(line)?;
     let result = at.types().result(at.function.ty);
@@ -111,10 +103,8 @@ fn leave(at: Inside, body: &mut Body, line: u32) -> Result<(), LowerRefusal>
 
 /// The body of `main`, and its end.
 fn lower_main(at: Inside, body: &mut Body) -> Result<(), LowerRefusal>
-    ensures {
-        Runs nothing (rows_of at.entry) body.old body.new result
-            (main_body (inside_view at.entry) (function_view (types_of at.entry) at.entry.function.now))
-    }
+    ensures { Runs nothing (rows_of at.entry) body.old body.new result
+        (main_body (inside_view at.entry) (function_view (types_of at.entry) at.entry.function.now)) }
 {
     let items = at.function.body.items.as_slice();
     let stay = body.objects.len();
@@ -126,10 +116,8 @@ fn lower_main(at: Inside, body: &mut Body) -> Result<(), LowerRefusal>
 
 /// The body of a function, and its end.
 fn lower_body(at: Inside, body: &mut Body) -> Result<(), LowerRefusal>
-    ensures {
-        Runs nothing (rows_of at.entry) body.old body.new result
-            (body_of (inside_view at.entry) (function_view (types_of at.entry) at.entry.function.now))
-    }
+    ensures { Runs nothing (rows_of at.entry) body.old body.new result
+        (body_of (inside_view at.entry) (function_view (types_of at.entry) at.entry.function.now)) }
 {
     if at.is_main() {
         return lower_main(at, body);
@@ -141,10 +129,8 @@ fn lower_body(at: Inside, body: &mut Body) -> Result<(), LowerRefusal>
 
 /// The parameters and the body.
 fn lower_with_parameters(at: Inside, body: &mut Body) -> Result<(), LowerRefusal>
-    ensures {
-        Runs nothing (rows_of at.entry) body.old body.new result
-            (with_body (inside_view at.entry) (function_view (types_of at.entry) at.entry.function.now))
-    }
+    ensures { Runs nothing (rows_of at.entry) body.old body.new result
+        (with_body (inside_view at.entry) (function_view (types_of at.entry) at.entry.function.now)) }
 {
     let stay = body.objects.len();
     begin_parameters(at, body)?;
@@ -155,10 +141,8 @@ fn lower_with_parameters(at: Inside, body: &mut Body) -> Result<(), LowerRefusal
 
 /// The whole function, behind the number of its type.
 fn lower_all(at: Inside, body: &mut Body) -> Result<u16, LowerRefusal>
-    ensures {
-        Runs itself (rows_of at.entry) body.old body.new result
-            (typed_code (inside_view at.entry) (function_view (types_of at.entry) at.entry.function.now))
-    }
+    ensures { Runs itself (rows_of at.entry) body.old body.new result
+        (typed_code (inside_view at.entry) (function_view (types_of at.entry) at.entry.function.now)) }
 {
     let ty = body.out.type_number(at, at.function.ty)?;
     stand_arguments(at, &mut body.out)?;
@@ -167,11 +151,7 @@ fn lower_all(at: Inside, body: &mut Body) -> Result<u16, LowerRefusal>
 }
 
 /// A function of which nothing is lowered yet.
-fn started(
-    alloc: Global,
-    locals: usize,
-    types: IndexSet<TypeRef>,
-) -> Result<Body, LowerRefusal>
+fn started(alloc: Global, locals: usize, types: IndexSet<TypeRef>) -> Result<Body, LowerRefusal>
     ensures begun { IfOk result (λ body. Starts locals types.keys body) }
     ensures memory { IfErr result (λ e. e ≡ Memory) }
 {
@@ -192,10 +172,8 @@ pub(crate) fn lower_function(
     at: Inside,
     types: IndexSet<TypeRef>,
 ) -> Result<Lowered, LowerRefusal>
-    ensures {
-        (known : List CType) → AreTypes (rows_of at.entry) types.keys known → GivesFunction (rows_of at.entry)
-            (lowered_function (inside_view at.entry).program at.entry.part (function_view (types_of at.entry) at.entry.function.now) known) result
-    }
+    ensures { (known : List CType) → AreTypes (rows_of at.entry) types.keys known → GivesFunction (rows_of at.entry)
+        (lowered_function (inside_view at.entry).program at.entry.part (function_view (types_of at.entry) at.entry.function.now) known) result }
 {
     let mut body = started(alloc, at.function.locals.len(), types)?;
     let ty = lower_all(at, &mut body)?;

@@ -22,10 +22,8 @@ fn move_to_cell(
     pointer: u16,
     cell: u32,
 ) -> Result<(), LowerRefusal>
-    ensures {
-        (rows : List Row) → Emits nothing rows out.old out.new result
-            (to_cell (row_view (type_at rows) row) pointer cell)
-    }
+    ensures { (rows : List Row) → Emits nothing rows out.old out.new result
+        (to_cell (row_view (type_at rows) row) pointer cell) }
 {
     if cell == 0 {
         return Ok(());
@@ -60,10 +58,8 @@ fn give_cell(
     pointer: u16,
     cell: &Cell,
 ) -> Result<(), LowerRefusal>
-    ensures {
-        Emits nothing (rows_of at.entry) out.old out.new result
-            (cell_given (inside_view at.entry) (row_view (types_of at.entry) row) home pointer (cell_view (types_of at.entry) cell.now))
-    }
+    ensures { Emits nothing (rows_of at.entry) out.old out.new result
+        (cell_given (inside_view at.entry) (row_view (types_of at.entry) row) home pointer (cell_view (types_of at.entry) cell.now)) }
 {
     out.emit(
         row.first,
@@ -84,10 +80,8 @@ fn give_cells(
     number: usize,
     cells: &[Cell],
 ) -> Result<(), LowerRefusal>
-    ensures {
-        Emits nothing (rows_of at.entry) out.old out.new result
-            (all_cells_given (inside_view at.entry) (row_at (inside_view at.entry).rows number) number (map (cell_view (types_of at.entry)) cells.now))
-    }
+    ensures { Emits nothing (rows_of at.entry) out.old out.new result
+        (all_cells_given (inside_view at.entry) (row_at (inside_view at.entry).rows number) number (map (cell_view (types_of at.entry)) cells.now)) }
 {
     let row = at.row(number);
     let home = out.home(number);
@@ -110,16 +104,9 @@ fn storing(row: LocalRow, pointer: u16, source: u16) -> Mid
 }
 
 /// A local in memory takes its value (C11 6.7.9p11).
-fn give_memory(
-    at: Inside,
-    out: &mut Emitter,
-    number: usize,
-    e: &Value,
-) -> Result<(), LowerRefusal>
-    ensures {
-        Emits nothing (rows_of at.entry) out.old out.new result
-            (in_memory_given (inside_view at.entry) (row_at (inside_view at.entry).rows number) number (value_view (types_of at.entry) e.now))
-    }
+fn give_memory(at: Inside, out: &mut Emitter, number: usize, e: &Value) -> Result<(), LowerRefusal>
+    ensures { Emits nothing (rows_of at.entry) out.old out.new result
+        (in_memory_given (inside_view at.entry) (row_at (inside_view at.entry).rows number) number (value_view (types_of at.entry) e.now)) }
 {
     let row = at.row(number);
     let home = out.home(number);
@@ -142,10 +129,8 @@ fn give_register(
     number: usize,
     e: &Value,
 ) -> Result<(), LowerRefusal>
-    ensures {
-        Emits nothing (rows_of at.entry) out.old out.new result
-            (in_register_given (inside_view at.entry) (row_at (inside_view at.entry).rows number) number (value_view (types_of at.entry) e.now))
-    }
+    ensures { Emits nothing (rows_of at.entry) out.old out.new result
+        (in_register_given (inside_view at.entry) (row_at (inside_view at.entry).rows number) number (value_view (types_of at.entry) e.now)) }
 {
     let row = at.row(number);
     let source = value(at, out, e, 0)?;
@@ -155,11 +140,9 @@ fn give_register(
 
 /// A local takes the value of its initializer, if it has one.
 fn initialize(at: Inside, out: &mut Emitter, local: &LocalItem) -> Result<(), LowerRefusal>
-    ensures {
-        Emits nothing (rows_of at.entry) out.old out.new result
-            (initializes (inside_view at.entry) (local_item_view (types_of at.entry) local.now).number
-            (local_item_view (types_of at.entry) local.now).initializer)
-    }
+    ensures { Emits nothing (rows_of at.entry) out.old out.new result
+        (initializes (inside_view at.entry) (local_item_view (types_of at.entry) local.now).number
+        (local_item_view (types_of at.entry) local.now).initializer) }
 {
     let number = local.number as usize;
     match &local.initializer {
@@ -181,10 +164,8 @@ pub(crate) fn initialize_all(
     out: &mut Emitter,
     locals: &[LocalItem],
 ) -> Result<(), LowerRefusal>
-    ensures {
-        Emits nothing (rows_of at.entry) out.old out.new result
-            (all_initialize (inside_view at.entry) (map (local_item_view (types_of at.entry)) locals.now))
-    }
+    ensures { Emits nothing (rows_of at.entry) out.old out.new result
+        (all_initialize (inside_view at.entry) (map (local_item_view (types_of at.entry)) locals.now)) }
 {
     for local in locals {
         initialize(at, out, local)?;

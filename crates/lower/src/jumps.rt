@@ -16,10 +16,8 @@ pub(crate) fn returned(
     line: u32,
     e: &Option<Value>,
 ) -> Result<u16, LowerRefusal>
-    ensures {
-        Emits itself (rows_of at.entry) out.old out.new result
-            (value_or_zero (inside_view at.entry) line (option_map (value_view (types_of at.entry)) e.now))
-    }
+    ensures { Emits itself (rows_of at.entry) out.old out.new result
+        (value_or_zero (inside_view at.entry) line (option_map (value_view (types_of at.entry)) e.now)) }
 {
     match e {
         None => out.constant(0, 0, line),

@@ -31,10 +31,8 @@ pub(crate) fn open(
 
 /// A local gets its register: in memory it begins as an object of zeros, else as 0.
 fn begin_local(at: Inside, body: &mut Body, number: usize) -> Result<(), LowerRefusal>
-    ensures {
-        Begins nothing (rows_of at.entry) (λ start. begun_at (inside_view at.entry).rows start (number ∷ [])) body.old body.new result
-            (begins (inside_view at.entry) number)
-    }
+    ensures { Begins nothing (rows_of at.entry) (λ start. begun_at (inside_view at.entry).rows start (number ∷ [])) body.old body.new result
+        (begins (inside_view at.entry) number) }
 {
     let row = at.row(number);
     let types = at.types();
@@ -42,9 +40,7 @@ fn begin_local(at: Inside, body: &mut Body, number: usize) -> Result<(), LowerRe
         open(body, number, cells(types, row.ty.target)?, row.line)?;
         return Ok(());
     }
-    let target = body
-        .out
-        .register(kind_of(types, row.ty.target), row.line)?;
+    let target = body.out.register(kind_of(types, row.ty.target), row.line)?;
     body.out.settle(number, target);
     body.out.emit(row.first, Mid::Const { target, value: 0 })
 }
@@ -55,11 +51,9 @@ pub(crate) fn begin_locals(
     body: &mut Body,
     locals: &[LocalItem],
 ) -> Result<(), LowerRefusal>
-    ensures {
-        Begins nothing (rows_of at.entry)
-            (λ start. begun_at (inside_view at.entry).rows start (numbers_of (map (local_item_view (types_of at.entry)) locals.now))) body.old body.new
-            result (all_begin (inside_view at.entry) (numbers_of (map (local_item_view (types_of at.entry)) locals.now)))
-    }
+    ensures { Begins nothing (rows_of at.entry)
+        (λ start. begun_at (inside_view at.entry).rows start (numbers_of (map (local_item_view (types_of at.entry)) locals.now))) body.old body.new
+        result (all_begin (inside_view at.entry) (numbers_of (map (local_item_view (types_of at.entry)) locals.now))) }
 {
     for local in locals {
         begin_local(at, body, local.number as usize)?;
@@ -69,11 +63,9 @@ pub(crate) fn begin_locals(
 
 /// The locals that an item of a block declares begin.
 fn begin_item(at: Inside, body: &mut Body, item: &BlockItem) -> Result<(), LowerRefusal>
-    ensures {
-        Begins nothing (rows_of at.entry)
-            (λ start. begun_at (inside_view at.entry).rows start (locals_of (block_item_view (types_of at.entry) item.now no_items))) body.old body.new
-            result (all_begin (inside_view at.entry) (locals_of (block_item_view (types_of at.entry) item.now no_items)))
-    }
+    ensures { Begins nothing (rows_of at.entry)
+        (λ start. begun_at (inside_view at.entry).rows start (locals_of (block_item_view (types_of at.entry) item.now no_items))) body.old body.new
+        result (all_begin (inside_view at.entry) (locals_of (block_item_view (types_of at.entry) item.now no_items))) }
 {
     match item {
         BlockItem::Declaration(locals) => begin_locals(at, body, locals.as_slice()),
@@ -87,11 +79,9 @@ pub(crate) fn begin_block(
     body: &mut Body,
     items: &[BlockItem],
 ) -> Result<(), LowerRefusal>
-    ensures {
-        Begins nothing (rows_of at.entry)
-            (λ start. begun_at (inside_view at.entry).rows start (locals_of (all_items (map (block_item_view (types_of at.entry)) items.now)))) body.old body.new
-            result (all_begin (inside_view at.entry) (locals_of (all_items (map (block_item_view (types_of at.entry)) items.now))))
-    }
+    ensures { Begins nothing (rows_of at.entry)
+        (λ start. begun_at (inside_view at.entry).rows start (locals_of (all_items (map (block_item_view (types_of at.entry)) items.now)))) body.old body.new
+        result (all_begin (inside_view at.entry) (locals_of (all_items (map (block_item_view (types_of at.entry)) items.now)))) }
 {
     for item in items {
         begin_item(at, body, item)?;

@@ -28,10 +28,8 @@ pub(crate) fn test(
     out: &mut Emitter,
     e: Option<&Value>,
 ) -> Result<Option<u16>, LowerRefusal>
-    ensures {
-        Emits (λ r. r) (rows_of at.entry) out.old out.new result
-            (tested (inside_view at.entry) (option_map (value_view (types_of at.entry)) (option_copied e.entry)))
-    }
+    ensures { Emits (λ r. r) (rows_of at.entry) out.old out.new result
+        (tested (inside_view at.entry) (option_map (value_view (types_of at.entry)) (option_copied e.entry))) }
 {
     match e {
         None => Ok(None),
@@ -40,15 +38,9 @@ pub(crate) fn test(
 }
 
 /// A value is computed and dropped, where there is one.
-pub(crate) fn compute(
-    at: Inside,
-    out: &mut Emitter,
-    e: Option<&Value>,
-) -> Result<(), LowerRefusal>
-    ensures {
-        Emits nothing (rows_of at.entry) out.old out.new result
-            (done (inside_view at.entry) (option_map (value_view (types_of at.entry)) (option_copied e.entry)))
-    }
+pub(crate) fn compute(at: Inside, out: &mut Emitter, e: Option<&Value>) -> Result<(), LowerRefusal>
+    ensures { Emits nothing (rows_of at.entry) out.old out.new result
+        (done (inside_view at.entry) (option_map (value_view (types_of at.entry)) (option_copied e.entry))) }
 {
     if let Some(e) = e {
         value(at, out, e, 0)?;

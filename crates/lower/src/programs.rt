@@ -41,10 +41,9 @@ fn lower_part(
     known: IndexSet<TypeRef>,
     lowered: &mut Vec<MidFunction>,
 ) -> Result<IndexSet<TypeRef>, LowerRefusal>
-    ensures {
-        (types : List CType) → AreTypes program.now.types known.keys types → GivesFunctions (λ known. known.keys) program.now.types lowered.old.items lowered.new.items
-            (lowered_functions (program_view program.now) part (file_of_part part (program_view program.now)).functions types) result
-    }
+    ensures { (types : List CType) → AreTypes program.now.types known.keys types
+        → GivesFunctions (λ known. known.keys) program.now.types lowered.old.items lowered.new.items
+        (lowered_functions (program_view program.now) part (file_of_part part (program_view program.now)).functions types) result }
 {
     let mut known = known;
     for function in file_of(program, part).functions.as_slice() {
@@ -61,8 +60,8 @@ fn lower_part(
 }
 
 /// Lowers a typed program to middle code: exactly to what the table of lowering says, or the cause for which the first
-/// function that is refused is, or `Memory`. Numbers that no program of 1 MiB of source has too large (a function, a type
-/// of functions or a text past what middle code can name, a call with more than 16 arguments) are `Memory` too.
+/// function that is refused is, or `Memory`. What no typed program of bytes has (a function, a type of functions or a text
+/// past what middle code can name, a call with more than 16 arguments) is `Memory` too.
 pub fn lower(alloc: Global, program: &TypedProgram) -> Result<MidProgram, LowerRefusal>
     ensures { GivesProgram (lowered (program_view program.now)) result }
 {

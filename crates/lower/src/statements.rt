@@ -25,10 +25,8 @@ use mid_code::Mid;
 /// Lowers a statement (C11 6.8). Temporaries are free again at each.
 #[cycle(statement)]
 pub(crate) fn statement(at: Inside, body: &mut Body, stmt: &Stmt) -> Result<(), LowerRefusal>
-    ensures {
-        Runs nothing (rows_of at.entry) body.old body.new result
-            (lowers (inside_view at.entry) (stmt_view (types_of at.entry) stmt.now))
-    }
+    ensures { Runs nothing (rows_of at.entry) body.old body.new result
+        (lowers (inside_view at.entry) (stmt_view (types_of at.entry) stmt.now)) }
 {
     let line = stmt.line;
     match &stmt.node {
@@ -69,17 +67,9 @@ pub(crate) fn statement(at: Inside, body: &mut Body, stmt: &Stmt) -> Result<(), 
 
 /// `if` without `else`, behind its test (C11 6.8.4.1).
 #[cycle(statement)]
-fn only_if(
-    at: Inside,
-    body: &mut Body,
-    line: u32,
-    test: u16,
-    a: &Stmt,
-) -> Result<(), LowerRefusal>
-    ensures {
-        Runs nothing (rows_of at.entry) body.old body.new result
-            (wrapped (jumped line (mid_of.JumpZ test)) (lowers (inside_view at.entry) (stmt_view (types_of at.entry) a.now)))
-    }
+fn only_if(at: Inside, body: &mut Body, line: u32, test: u16, a: &Stmt) -> Result<(), LowerRefusal>
+    ensures { Runs nothing (rows_of at.entry) body.old body.new result
+        (wrapped (jumped line (mid_of.JumpZ test)) (lowers (inside_view at.entry) (stmt_view (types_of at.entry) a.now))) }
 {
     let waits = body.out.jump_from(line, false, test)?;
     statement(at, body, a)?;
@@ -98,12 +88,10 @@ fn rounds(
     a: &Stmt,
     step: Option<&Value>,
 ) -> Result<(), LowerRefusal>
-    ensures {
-        Runs nothing (rows_of at.entry) body.old body.new result
-            (looped (inside_view at.entry) line (option_map (value_view (types_of at.entry)) (option_copied condition.entry))
-            (lowers (inside_view at.entry) (stmt_view (types_of at.entry) a.now))
-            (option_map (value_view (types_of at.entry)) (option_copied step.entry)))
-    }
+    ensures { Runs nothing (rows_of at.entry) body.old body.new result
+        (looped (inside_view at.entry) line (option_map (value_view (types_of at.entry)) (option_copied condition.entry))
+        (lowers (inside_view at.entry) (stmt_view (types_of at.entry) a.now))
+        (option_map (value_view (types_of at.entry)) (option_copied step.entry))) }
 {
     let top = body.out.here();
     let objects = body.enter_loop()?;
@@ -128,11 +116,9 @@ fn rounds_of_do(
     a: &Stmt,
     condition: &Value,
 ) -> Result<(), LowerRefusal>
-    ensures {
-        Runs nothing (rows_of at.entry) body.old body.new result
-            (do_looped (inside_view at.entry) line (lowers (inside_view at.entry) (stmt_view (types_of at.entry) a.now))
-            (value_view (types_of at.entry) condition.now))
-    }
+    ensures { Runs nothing (rows_of at.entry) body.old body.new result
+        (do_looped (inside_view at.entry) line (lowers (inside_view at.entry) (stmt_view (types_of at.entry) a.now))
+        (value_view (types_of at.entry) condition.now)) }
 {
     let top = body.out.here();
     let objects = body.enter_loop()?;
@@ -154,10 +140,8 @@ fn for_loop(
     head: &ForHead,
     a: &Stmt,
 ) -> Result<(), LowerRefusal>
-    ensures {
-        Runs nothing (rows_of at.entry) body.old body.new result
-            (lowers (inside_view at.entry) (for_of (types_of at.entry) line head.now (stmt_view (types_of at.entry) a.now)))
-    }
+    ensures { Runs nothing (rows_of at.entry) body.old body.new result
+        (lowers (inside_view at.entry) (for_of (types_of at.entry) line head.now (stmt_view (types_of at.entry) a.now))) }
 {
     match &head.start {
         ForStart::Value(first) => {
@@ -178,12 +162,10 @@ fn rounds_with(
     head: &ForHead,
     a: &Stmt,
 ) -> Result<(), LowerRefusal>
-    ensures {
-        Runs nothing (rows_of at.entry) body.old body.new result
-            (looped_with (inside_view at.entry) (map (local_item_view (types_of at.entry)) locals.now) line
-            (option_map (value_view (types_of at.entry)) head.now.test) (lowers (inside_view at.entry) (stmt_view (types_of at.entry) a.now))
-            (option_map (value_view (types_of at.entry)) head.now.step))
-    }
+    ensures { Runs nothing (rows_of at.entry) body.old body.new result
+        (looped_with (inside_view at.entry) (map (local_item_view (types_of at.entry)) locals.now) line
+        (option_map (value_view (types_of at.entry)) head.now.test) (lowers (inside_view at.entry) (stmt_view (types_of at.entry) a.now))
+        (option_map (value_view (types_of at.entry)) head.now.step)) }
 {
     let stay = body.objects.len();
     begin_locals(at, body, locals)?;
@@ -200,11 +182,9 @@ pub(crate) fn items_in_block(
     items: &[BlockItem],
     line: u32,
 ) -> Result<(), LowerRefusal>
-    ensures {
-        Runs nothing (rows_of at.entry) body.old body.new result
-            (in_block (inside_view at.entry) (locals_of (items_of (map (block_item_view (types_of at.entry)) items.now))) line
-            (lowers_items (inside_view at.entry) (items_of (map (block_item_view (types_of at.entry)) items.now))))
-    }
+    ensures { Runs nothing (rows_of at.entry) body.old body.new result
+        (in_block (inside_view at.entry) (locals_of (items_of (map (block_item_view (types_of at.entry)) items.now))) line
+        (lowers_items (inside_view at.entry) (items_of (map (block_item_view (types_of at.entry)) items.now)))) }
 {
     let stay = body.objects.len();
     begin_block(at, body, items)?;
@@ -219,10 +199,8 @@ pub(crate) fn all_items(
     body: &mut Body,
     items: &[BlockItem],
 ) -> Result<(), LowerRefusal>
-    ensures {
-        Runs nothing (rows_of at.entry) body.old body.new result
-            (lowers_items (inside_view at.entry) (items_of (map (block_item_view (types_of at.entry)) items.now)))
-    }
+    ensures { Runs nothing (rows_of at.entry) body.old body.new result
+        (lowers_items (inside_view at.entry) (items_of (map (block_item_view (types_of at.entry)) items.now))) }
 {
     for item in items {
         block_item(at, body, item)?;
@@ -233,10 +211,8 @@ pub(crate) fn all_items(
 /// A part of a block: statements are lowered, and locals take their values.
 #[cycle(statement)]
 fn block_item(at: Inside, body: &mut Body, item: &BlockItem) -> Result<(), LowerRefusal>
-    ensures {
-        Runs nothing (rows_of at.entry) body.old body.new result
-            (lowers_items (inside_view at.entry) (block_item_view (types_of at.entry) item.now no_items))
-    }
+    ensures { Runs nothing (rows_of at.entry) body.old body.new result
+        (lowers_items (inside_view at.entry) (block_item_view (types_of at.entry) item.now no_items)) }
 {
     match item {
         BlockItem::Statement(stmt) => statement(at, body, stmt),

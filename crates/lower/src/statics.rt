@@ -104,10 +104,8 @@ fn object_of_static(
     part: Part,
     object: &TypedStatic,
 ) -> Result<Static, LowerRefusal>
-    ensures object {
-        IfOk result (λ made.
-            made ≡ shortened (meaning.object_of_static (program_view program.now) part (static_view (type_at program.now.types) object.now)))
-    }
+    ensures object { IfOk result (λ made.
+        made ≡ shortened (meaning.object_of_static (program_view program.now) part (static_view (type_at program.now.types) object.now))) }
     ensures memory { IfErr result (λ e. e ≡ Memory) }
 {
     let types = &program.types;

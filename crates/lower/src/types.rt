@@ -20,10 +20,8 @@ pub(crate) fn add_types(
     types: &Types,
     functions: &[Function],
 ) -> Result<(), AllocError>
-    ensures {
-        OnOk result ((before : List CType) → AreTypes types.now known.old.keys before
-            → AreTypes types.now known.new.keys (all_types before (map (function_view (type_at types.now)) functions.now)))
-    }
+    ensures { OnOk result ((before : List CType) → AreTypes types.now known.old.keys before
+        → AreTypes types.now known.new.keys (all_types before (map (function_view (type_at types.now)) functions.now))) }
 {
     for function in functions {
         known.insert_full(types.reference(function.ty))?;

@@ -23,10 +23,8 @@ pub(crate) fn value(
     value: &Value,
     k: usize,
 ) -> Result<u16, LowerRefusal>
-    ensures {
-        Emits itself (rows_of at.entry) out.old out.new result
-            (value_of (inside_view at.entry) (value_view (types_of at.entry) value.now) k)
-    }
+    ensures { Emits itself (rows_of at.entry) out.old out.new result
+        (value_of (inside_view at.entry) (value_view (types_of at.entry) value.now) k) }
 {
     let line = value.line;
     match &value.node {
@@ -126,7 +124,15 @@ pub(crate) fn value(
         ValueNode::Discarded(e) => self::value(at, out, e.get(), k),
         ValueNode::Call(told, entity, es) => {
             let args = arguments(at, out, es, k)?;
-            out.call(at, value.ty, line, *told, at.function_number(*entity)?, k, args)
+            out.call(
+                at,
+                value.ty,
+                line,
+                *told,
+                at.function_number(*entity)?,
+                k,
+                args,
+            )
         }
         ValueNode::CallThrough(told, e, es) => {
             let callee = self::value(at, out, e.get(), k)?;
@@ -156,10 +162,8 @@ fn decide(
     b: &Value,
     first: u16,
 ) -> Result<u16, LowerRefusal>
-    ensures {
-        Emits itself (rows_of at.entry) out.old out.new result
-            (decides is_or line k (value_of (inside_view at.entry) (value_view (types_of at.entry) b.now) k) first)
-    }
+    ensures { Emits itself (rows_of at.entry) out.old out.new result
+        (decides is_or line k (value_of (inside_view at.entry) (value_view (types_of at.entry) b.now) k) first) }
 {
     let waits = out.jump_from(line, is_or, first)?;
     let second = value(at, out, b, k)?;
@@ -180,11 +184,9 @@ fn update(
     located: Located,
     e: &Value,
 ) -> Result<u16, LowerRefusal>
-    ensures {
-        Emits itself (rows_of at.entry) out.old out.new result
-            (updated (inside_view at.entry) by.is_after by.first by.op by.at by.ty (types_of at.entry of) line k (located_view located)
-            (value_view (types_of at.entry) e.now))
-    }
+    ensures { Emits itself (rows_of at.entry) out.old out.new result
+        (updated (inside_view at.entry) by.is_after by.first by.op by.at by.ty (types_of at.entry of) line k (located_view located)
+        (value_view (types_of at.entry) e.now)) }
 {
     let begun = out.begin_update(at, by.is_after, line, of, k, located)?;
     let change = out.widen(by.first, at.ty(of), by.ty, begun)?;
@@ -209,11 +211,9 @@ fn change_pointer(
     located: Located,
     e: &Value,
 ) -> Result<u16, LowerRefusal>
-    ensures {
-        Emits itself (rows_of at.entry) out.old out.new result
-            (repointed (inside_view at.entry) by.is_after by.is_less by.at (types_of at.entry of) (types_of at.entry e.now.ty) line k (located_view located)
-            (value_view (types_of at.entry) e.now))
-    }
+    ensures { Emits itself (rows_of at.entry) out.old out.new result
+        (repointed (inside_view at.entry) by.is_after by.is_less by.at (types_of at.entry of) (types_of at.entry e.now.ty) line k (located_view located)
+        (value_view (types_of at.entry) e.now)) }
 {
     let change = out.begin_move(at, by.is_after, line, of, k, located)?;
     let index = value(at, out, e, k)?;
@@ -234,10 +234,8 @@ fn arguments(
     es: &Items<Boxed<Value>>,
     k: usize,
 ) -> Result<Registers, LowerRefusal>
-    ensures {
-        Emits registers_list (rows_of at.entry) out.old out.new result
-            (values_in (inside_view at.entry) (values_from (map (value_view (types_of at.entry)) es.now)) k)
-    }
+    ensures { Emits registers_list (rows_of at.entry) out.old out.new result
+        (values_in (inside_view at.entry) (values_from (map (value_view (types_of at.entry)) es.now)) k) }
 {
     let mut found = Registers::new();
     let mut free = k;
@@ -260,10 +258,8 @@ fn drop_all(
     es: &Items<Boxed<Value>>,
     k: usize,
 ) -> Result<(), LowerRefusal>
-    ensures {
-        Emits nothing (rows_of at.entry) out.old out.new result
-            (dropped_in (inside_view at.entry) (values_from (map (value_view (types_of at.entry)) es.now)) k)
-    }
+    ensures { Emits nothing (rows_of at.entry) out.old out.new result
+        (dropped_in (inside_view at.entry) (values_from (map (value_view (types_of at.entry)) es.now)) k) }
 {
     for e in es.as_slice() {
         value(at, out, e.get(), k)?;
@@ -279,10 +275,8 @@ pub(crate) fn address(
     place: &Place,
     k: usize,
 ) -> Result<u16, LowerRefusal>
-    ensures {
-        Emits itself (rows_of at.entry) out.old out.new result
-            (address_of (inside_view at.entry) (place_view (types_of at.entry) place.now) k)
-    }
+    ensures { Emits itself (rows_of at.entry) out.old out.new result
+        (address_of (inside_view at.entry) (place_view (types_of at.entry) place.now) k) }
 {
     let line = place.line;
     match &place.node {
@@ -308,16 +302,9 @@ pub(crate) fn address(
 
 /// A place with its register.
 #[cycle(value)]
-fn location(
-    at: Inside,
-    out: &mut Emitter,
-    place: &Place,
-    k: usize,
-) -> Result<Located, LowerRefusal>
-    ensures {
-        Emits located_view (rows_of at.entry) out.old out.new result
-            (location_of (inside_view at.entry) (place_view (types_of at.entry) place.now) k)
-    }
+fn location(at: Inside, out: &mut Emitter, place: &Place, k: usize) -> Result<Located, LowerRefusal>
+    ensures { Emits located_view (rows_of at.entry) out.old out.new result
+        (location_of (inside_view at.entry) (place_view (types_of at.entry) place.now) k) }
 {
     match at.where_is(place) {
         Where::Register(number) => Ok(Located::Held(out.home(number))),

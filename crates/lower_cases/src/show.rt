@@ -24,7 +24,12 @@ fn show_statics(rt: &HostRuntime, statics: &Items<Static>) -> Result<()> {
 fn show_head(rt: &HostRuntime, function: &MidFunction) -> Result<()> {
     let kinds = function.kinds.as_slice();
     if kinds.len() > MANY {
-        println!(rt; "function {} {} {} registers", function.ty, function.line, kinds.len())?;
+        println!(rt;
+            "function {} {} {} registers",
+            function.ty,
+            function.line,
+            kinds.len()
+        )?;
     } else {
         println!(rt; "function {} {} {:?}", function.ty, function.line, kinds)?;
     }

@@ -8,7 +8,8 @@ returns-in_err-emit c = stop _ refl (exits c.from_residual.result _ c.from_resid
 
 pub returns-in_err-move_to_cell : goal.returns-in_err-move_to_cell
 returns-in_err-move_to_cell c =
-    step _ refl (c.in_ok-emit.ensures (rows_of c.args.at)) (stop _ refl (exits c.from_residual-in_err-move_to_cell.result _ c.from_residual-in_err-move_to_cell.ensures.1)
+    step _ refl (c.in_ok-emit.ensures (rows_of c.args.at)) (stop _ refl
+    (exits c.from_residual-in_err-move_to_cell.result _ c.from_residual-in_err-move_to_cell.ensures.1)
     (c.in_err-move_to_cell.ensures (rows_of c.args.at)))
 
 pub returns-in_err-source : goal.returns-in_err-source

@@ -31,5 +31,6 @@ returns c =
     same-making (ap (λ z. in_memory_given (inside_view c.args.at) z c.args.number (value_view (types_of c.args.at) c.args.e.now)) (sym c.row-row.ensures))
     (step _ refl (c.home-home.ensures (rows_of c.args.at)) (step _ refl (c.in_ok-pointer.ensures (rows_of c.args.at))
     (step _ refl (c.in_ok-emit.ensures (rows_of c.args.at)) (step _ refl c.in_ok-source.ensures
-    (same-making (stored-told (row_view (types_of c.args.at) c.row-row.result) c.in_ok-pointer.pointer c.in_ok-source.source c.row-row.result.line c.storing.result
+    (same-making (stored-told (row_view (types_of c.args.at) c.row-row.result) c.in_ok-pointer.pointer c.in_ok-source.source c.row-row.result.line
+    c.storing.result
     (c.storing.ensures (rows_of c.args.at))) (c.emit-2.ensures (rows_of c.args.at)))))))

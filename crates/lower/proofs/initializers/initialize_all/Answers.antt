@@ -1,4 +1,4 @@
-use Rattle.std.proofs.Common.{Ok, refl}
+use Rattle.std.proofs.Common.{Ok}
 use Rattle.lower.specs.Emits.{types_of, inside_view}
 use Rattle.lower.proofs.Cells.{locals-next, locals-done}
 use Rattle.lower.proofs.Steps.{step, stop, given, exits, same-making}

@@ -1,4 +1,4 @@
-use Rattle.std.proofs.Common.{refl, sym, ◌∙◌, ap, ◌≡◌, ℕ, List, [], ◌∷◌, Err}
+use Rattle.std.proofs.Common.{refl, ◌∙◌, ap, List, [], ◌∷◌, Err}
 use Rattle.c_types.specs.Table.{type_at}
 use Rattle.c_types.specs.Types.{cells_of}
 use Rattle.c_types.specs.declared.type_ref.Row.{Row}

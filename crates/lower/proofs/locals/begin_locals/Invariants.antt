@@ -1,4 +1,4 @@
-use Rattle.std.proofs.Common.{◌≡◌, ℕ, List, Result, drop}
+use Rattle.std.proofs.Common.{Result, drop}
 use Rattle.std.specs.Prelude.{⊤}
 use Rattle.lower.specs.declared.body.Body.{Body}
 use Rattle.lower.specs.declared.refusal.LowerRefusal.{LowerRefusal}

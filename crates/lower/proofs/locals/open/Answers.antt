@@ -1,4 +1,4 @@
-use Rattle.std.proofs.Common.{refl, sym, ◌∙◌, ap, ◌≡◌, ℕ, List, [], ◌∷◌}
+use Rattle.std.proofs.Common.{refl, [], ◌∷◌}
 use Rattle.mid_code.specs.declared.program.RegisterKind.TheVariants.{Address}
 use Rattle.lower.specs.declared.refusal.LowerRefusal.TheVariants.{Memory}
 use Rattle.lower.proofs.Steps.{exits}
@@ -22,8 +22,10 @@ returns c = λ rows.
     begin-emitted _ refl (sized-new Address c.args.line) (c.in_ok-target.ensures rows)
     (begin-emitted _ refl (λ allotted around start. refl) (c.settle.ensures rows)
     (begin-step {first = λ start. start ∷ []} {rest = λ start. []} _ 1 refl (λ allotted around start. refl) (λ start. refl)
-    (emitted-opens (λ start. start ∷ []) (record c.args.body.now { out = c.settle.new.self }) (record c.args.body.now { out = c.emit.new.self; objects = c.push.new.self })
-    (opened-here (record c.args.body.now { out = c.settle.new.self }) (record c.args.body.now { out = c.emit.new.self; objects = c.push.new.self }) c.here.result c.here.ensures
+    (emitted-opens (λ start. start ∷ []) (record c.args.body.now { out = c.settle.new.self })
+    (record c.args.body.now { out = c.emit.new.self; objects = c.push.new.self })
+    (opened-here (record c.args.body.now { out = c.settle.new.self })
+    (record c.args.body.now { out = c.emit.new.self; objects = c.push.new.self }) c.here.result c.here.ensures
     c.in_ok-push.ensures.items refl)
     (c.in_ok-emit.ensures rows))
     (begin-given (λ start. refl))))

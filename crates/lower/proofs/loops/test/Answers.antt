@@ -1,8 +1,7 @@
-use Rattle.std.proofs.Common.{refl, ap, Some, None, ◌∙◌}
+use Rattle.std.proofs.Common.{ap}
 use Rattle.std.specs.Prelude.{option_map}
 use Rattle.std.specs.Option.{option_copied}
 use Rattle.c_typed.specs.Views.{value_view}
-use Rattle.lower.specs.Emitting.{◌>>=◌}
 use Rattle.lower.specs.Statements.{tested}
 use Rattle.lower.specs.Emits.{types_of, inside_view}
 use Rattle.lower.proofs.Steps.{step, stop, given, exits, same-making}

@@ -1,18 +1,15 @@
-use Rattle.std.proofs.Common.{Err, refl, sym, ◌∙◌, ap, rules, ◌≡◌, ℕ, List, map, ◌+◌, ◌-◌, ◌*◌, ◌<◌, ◌≤◌, length, ◌/◌, ◌%◌, suc, if◌then◌else◌, Bool, true, false, nat_eq, nat_lt, [], ◌∷◌, ◌++◌, slice_index_or, slice_set, bit_and, bit_or, Fits, w8, w32, w64, Bor, MutBor}
-use Rattle.mid_code.specs.Registers.{registers_list}
-use Rattle.lower.specs.Emits.{rows_of, types_of, inside_view, Emits, itself, nothing, located_view, change_view}
+use Rattle.std.proofs.Common.{Err, refl, ◌∙◌, ap, ◌≡◌, suc, if◌then◌else◌}
+use Rattle.lower.specs.Emits.{rows_of, types_of, inside_view, located_view, change_view}
 use Rattle.lower.proofs.Steps.{exits, memory, step, stop, given, same-making}
 use Rattle.lower.proofs.Deciding.{operand-refused, test-refused, decided, first-operand-refused, first-join-refused, second-operand-refused, second-join-refused, chose}
 use Rattle.lower.proofs.Operands.{value-at, address-at, location-at}
 use Rattle.lower.proofs.Rows.{local-row, static-row, text-row, pointed-row, element-row, register-row, memory-row, constant-row, null-row, function-row, read-row, first_element-row, address-row, minus-row, complement-row, negation-row, arithmetic-row, sum-row, difference-row, comparison-row, conjunction-row, disjunction-row, choice-row, sequence-row, assignment-row, update-row, move-row, conversion-row, to_bool-row, requalified-row, discarded-row, call-row, call_through-row, putchar-row, getchar-row, exit-row}
 use Rattle.lower.proofs.ValueLists.{has-room, values-begin, values-next, values-refused, values-end, drops-begin, drops-next, drops-refused, drops-end}
-use Rattle.c_typed.specs.Views.{value_view, place_view, values_from}
-use Rattle.lower.specs.Expressions.{value_of, address_of, location_of, values_in, dropped_in, decides, chosen, updated, repointed, moved_by}
+use Rattle.c_typed.specs.Views.{value_view}
 use Rattle.c_types.specs.Types.{ty_of}
 use Rattle.lower.proofs.Changing.{free-after, free-before, widened-at, value-at as value-from, changed-at}
 use Rattle.lower.proofs.values.+value.Goals.{update-then-by+in_ok-behind+in_ok-free, update-else-by+in_ok-free-2}
 use Rattle.lower.proofs.values.+value.Goals as goal
-use Rattle.mid_code.specs.declared.mid.Mid.TheVariants as mid_of
 
 pub decide-returns-in_err-waits : goal.decide-returns-in_err-waits
 decide-returns-in_err-waits t c = memory (exits c.from_residual.result _ c.from_residual.ensures.1 ∙ ap Err c.in_err-waits.ensures)
@@ -560,43 +557,56 @@ pub arguments-push-requires : goal.arguments-push-requires
 arguments-push-requires t c = has-room c.loop-e.found _ c.is_full.ensures c.if-is_full.false
 
 pub value-returns-in_err-waits-in-Choice : goal.value-returns-in_err-waits-in-Choice
-value-returns-in_err-waits-in-Choice t c = memory (exits c.from_residual-in_err-waits-in-Choice.result _ c.from_residual-in_err-waits-in-Choice.ensures.1 ∙ ap Err c.in_err-waits-in-Choice.ensures)
+value-returns-in_err-waits-in-Choice t c = memory (exits c.from_residual-in_err-waits-in-Choice.result _ c.from_residual-in_err-waits-in-Choice.ensures.1
+    ∙ ap Err c.in_err-waits-in-Choice.ensures)
 
 pub value-returns-in_err-over-in-Choice : goal.value-returns-in_err-over-in-Choice
-value-returns-in_err-over-in-Choice t c = memory (exits c.from_residual-in_err-over-in-Choice.result _ c.from_residual-in_err-over-in-Choice.ensures.1 ∙ ap Err c.in_err-over-in-Choice.ensures)
+value-returns-in_err-over-in-Choice t c = memory (exits c.from_residual-in_err-over-in-Choice.result _ c.from_residual-in_err-over-in-Choice.ensures.1
+    ∙ ap Err c.in_err-over-in-Choice.ensures)
 
 pub value-returns-in_err-first-in-Choice : goal.value-returns-in_err-first-in-Choice
 value-returns-in_err-first-in-Choice t c =
     step _ (choice-row (inside_view c.args.at) (types_of c.args.at) c.args.value.now _ _ _ _ _ c.args.k c.in-Choice.is refl refl)
     (value-at (inside_view c.args.at) (types_of c.args.at) _ c.get-in-Choice.ensures c.in_ok-test-in-Choice.ensures)
-    (first-operand-refused _ _ _ _ _ _ _ _ _ _ _ _ c.in_ok-waits-in-Choice.ensures (value-at (inside_view c.args.at) (types_of c.args.at) _ c.get-in-Choice-2.ensures c.in_err-first-in-Choice.ensures)
+    (first-operand-refused _ _ _ _ _ _ _ _ _ _ _ _ c.in_ok-waits-in-Choice.ensures
+    (value-at (inside_view c.args.at) (types_of c.args.at) _ c.get-in-Choice-2.ensures c.in_err-first-in-Choice.ensures)
     (exits c.from_residual-in_err-first-in-Choice.result _ c.from_residual-in_err-first-in-Choice.ensures.1))
 
 pub value-returns-in_err-target-in-Choice : goal.value-returns-in_err-target-in-Choice
 value-returns-in_err-target-in-Choice t c =
     step _ (choice-row (inside_view c.args.at) (types_of c.args.at) c.args.value.now _ _ _ _ _ c.args.k c.in-Choice.is refl refl)
     (value-at (inside_view c.args.at) (types_of c.args.at) _ c.get-in-Choice.ensures c.in_ok-test-in-Choice.ensures)
-    (first-join-refused _ _ _ _ _ _ _ _ _ _ _ _ _ _ c.in_ok-waits-in-Choice.ensures (value-at (inside_view c.args.at) (types_of c.args.at) _ c.get-in-Choice-2.ensures c.in_ok-first-in-Choice.ensures) c.in_err-target-in-Choice.ensures
+    (first-join-refused _ _ _ _ _ _ _ _ _ _ _ _ _ _ c.in_ok-waits-in-Choice.ensures
+    (value-at (inside_view c.args.at) (types_of c.args.at) _ c.get-in-Choice-2.ensures c.in_ok-first-in-Choice.ensures) c.in_err-target-in-Choice.ensures
     (exits c.from_residual-in_err-target-in-Choice.result _ c.from_residual-in_err-target-in-Choice.ensures.1))
 
 pub value-returns-in_err-second-in-Choice : goal.value-returns-in_err-second-in-Choice
 value-returns-in_err-second-in-Choice t c =
     step _ (choice-row (inside_view c.args.at) (types_of c.args.at) c.args.value.now _ _ _ _ _ c.args.k c.in-Choice.is refl refl)
     (value-at (inside_view c.args.at) (types_of c.args.at) _ c.get-in-Choice.ensures c.in_ok-test-in-Choice.ensures)
-    (second-operand-refused _ _ _ _ _ _ _ _ _ _ _ _ _ _ _ _ _ _ c.in_ok-waits-in-Choice.ensures (value-at (inside_view c.args.at) (types_of c.args.at) _ c.get-in-Choice-2.ensures c.in_ok-first-in-Choice.ensures) c.in_ok-target-in-Choice.ensures c.in_ok-over-in-Choice.ensures
-    (value-at (inside_view c.args.at) (types_of c.args.at) _ c.get-in-Choice-3.ensures c.in_err-second-in-Choice.ensures) (exits c.from_residual-in_err-second-in-Choice.result _ c.from_residual-in_err-second-in-Choice.ensures.1))
+    (second-operand-refused _ _ _ _ _ _ _ _ _ _ _ _ _ _ _ _ _ _ c.in_ok-waits-in-Choice.ensures
+    (value-at (inside_view c.args.at) (types_of c.args.at) _ c.get-in-Choice-2.ensures c.in_ok-first-in-Choice.ensures)
+    c.in_ok-target-in-Choice.ensures c.in_ok-over-in-Choice.ensures
+    (value-at (inside_view c.args.at) (types_of c.args.at) _ c.get-in-Choice-3.ensures c.in_err-second-in-Choice.ensures)
+    (exits c.from_residual-in_err-second-in-Choice.result _ c.from_residual-in_err-second-in-Choice.ensures.1))
 
 pub value-returns-in_err-join_second-in-Choice : goal.value-returns-in_err-join_second-in-Choice
 value-returns-in_err-join_second-in-Choice t c =
     step _ (choice-row (inside_view c.args.at) (types_of c.args.at) c.args.value.now _ _ _ _ _ c.args.k c.in-Choice.is refl refl)
     (value-at (inside_view c.args.at) (types_of c.args.at) _ c.get-in-Choice.ensures c.in_ok-test-in-Choice.ensures)
-    (second-join-refused _ _ _ _ _ _ _ _ _ _ _ _ _ _ _ _ _ _ _ _ c.in_ok-waits-in-Choice.ensures (value-at (inside_view c.args.at) (types_of c.args.at) _ c.get-in-Choice-2.ensures c.in_ok-first-in-Choice.ensures) c.in_ok-target-in-Choice.ensures c.in_ok-over-in-Choice.ensures
-    (value-at (inside_view c.args.at) (types_of c.args.at) _ c.get-in-Choice-3.ensures c.in_ok-second-in-Choice.ensures) c.in_err-join_second-in-Choice.ensures (exits c.from_residual-in_err-join_second-in-Choice.result _ c.from_residual-in_err-join_second-in-Choice.ensures.1))
+    (second-join-refused _ _ _ _ _ _ _ _ _ _ _ _ _ _ _ _ _ _ _ _ c.in_ok-waits-in-Choice.ensures
+    (value-at (inside_view c.args.at) (types_of c.args.at) _ c.get-in-Choice-2.ensures c.in_ok-first-in-Choice.ensures)
+    c.in_ok-target-in-Choice.ensures c.in_ok-over-in-Choice.ensures
+    (value-at (inside_view c.args.at) (types_of c.args.at) _ c.get-in-Choice-3.ensures c.in_ok-second-in-Choice.ensures)
+    c.in_err-join_second-in-Choice.ensures (exits c.from_residual-in_err-join_second-in-Choice.result _
+    c.from_residual-in_err-join_second-in-Choice.ensures.1))
 
 pub value-returns-in_ok-join_second-in-Choice : goal.value-returns-in_ok-join_second-in-Choice
 value-returns-in_ok-join_second-in-Choice t c =
     step _ (choice-row (inside_view c.args.at) (types_of c.args.at) c.args.value.now _ _ _ _ _ c.args.k c.in-Choice.is refl refl)
     (value-at (inside_view c.args.at) (types_of c.args.at) _ c.get-in-Choice.ensures c.in_ok-test-in-Choice.ensures)
-    (chose _ _ _ _ _ _ _ _ _ _ _ _ _ _ _ _ _ _ _ _ c.in_ok-waits-in-Choice.ensures (value-at (inside_view c.args.at) (types_of c.args.at) _ c.get-in-Choice-2.ensures c.in_ok-first-in-Choice.ensures) c.in_ok-target-in-Choice.ensures c.in_ok-over-in-Choice.ensures (value-at (inside_view c.args.at) (types_of c.args.at) _ c.get-in-Choice-3.ensures c.in_ok-second-in-Choice.ensures)
+    (chose _ _ _ _ _ _ _ _ _ _ _ _ _ _ _ _ _ _ _ _ c.in_ok-waits-in-Choice.ensures
+    (value-at (inside_view c.args.at) (types_of c.args.at) _ c.get-in-Choice-2.ensures c.in_ok-first-in-Choice.ensures)
+    c.in_ok-target-in-Choice.ensures c.in_ok-over-in-Choice.ensures
+    (value-at (inside_view c.args.at) (types_of c.args.at) _ c.get-in-Choice-3.ensures c.in_ok-second-in-Choice.ensures)
     c.in_ok-join_second-in-Choice.ensures c.lead_here.ensures.allotted c.lead_here.ensures.led)
-

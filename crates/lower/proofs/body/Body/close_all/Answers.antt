@@ -1,7 +1,6 @@
-use Rattle.std.proofs.Common.{refl, sym, ◌∙◌, ap, Err, reverse, subst, List}
+use Rattle.std.proofs.Common.{refl, ◌∙◌, ap, Err, reverse, subst, List}
 use Rattle.std.specs.Prelude.{ℕ}
 use Rattle.lower.specs.Bodies.{Closing}
-use Rattle.lower.specs.declared.refusal.LowerRefusal.TheVariants.{Memory}
 use Rattle.lower.proofs.Steps.{exits}
 use Rattle.lower.proofs.RunSteps.{run-memory}
 use Rattle.lower.proofs.Closing.{all-closed}

@@ -1,4 +1,4 @@
-use Rattle.std.proofs.Common.{refl, sym, ◌∙◌, ap, Err}
+use Rattle.std.proofs.Common.{sym, ◌∙◌}
 use Rattle.lower.specs.Emits.{inside_view}
 use Rattle.lower.proofs.Steps.{exits}
 use Rattle.lower.proofs.RunSteps.{run-step, run-stop, run-same, emitted}

@@ -1,4 +1,4 @@
-use Rattle.std.proofs.Common.{refl, sym, ◌∙◌, ap, Err, reverse, subst, List}
+use Rattle.std.proofs.Common.{refl, ◌∙◌, ap, Err, reverse, subst, List}
 use Rattle.std.specs.Prelude.{ℕ}
 use Rattle.mid_code.specs.declared.mid.Mid.TheVariants as mid
 use Rattle.lower.specs.Emitting.{at_line}
@@ -18,7 +18,8 @@ returns-in_err-emit_break c = λ rows. run-memory (exits c.from_residual-in_err-
 
 pub returns : goal.returns
 returns c = λ rows.
-    left rows c.args.line c.args.self.now (record c.args.self.now { out = record { allotted = c.close.new.out.allotted; code = c.emit_break.new.self } }) c.close.new.out (breaks c.args.line)
+    left rows c.args.line c.args.self.now (record c.args.self.now { out = record { allotted = c.close.new.out.allotted; code = c.emit_break.new.self } })
+    c.close.new.out (breaks c.args.line)
     (λ l. at_line c.args.line (mid.Jump l.break_at)) tt
     (subst (λ (objects : List ℕ). Closing c.args.line (reverse objects) c.args.self.now.out c.close.new.out) c.deref.ensures.value c.in_ok-close.ensures)
     refl (record { objects = refl; outside = refl }) c.in_ok-emit_break.ensures (λ leads start. refl)

@@ -1,11 +1,9 @@
-use Rattle.std.proofs.Common.{◌≡◌, ℕ, List, refl, sym, ◌∙◌, ap, subst, Ok, Err}
-use Rattle.lower.specs.declared.refusal.LowerRefusal.TheVariants.{Memory}
-use Rattle.lower.specs.Expressions.{deciding}
+use Rattle.std.proofs.Common.{refl, ◌∙◌, ap}
 use Rattle.lower.specs.SoFar.{with_line}
 use Rattle.lower.specs.Drafts.{code_of}
 use Rattle.lower.specs.Instructions.{told}
-use Rattle.lower.proofs.Steps.{step, stop, memory, exits, given}
-use Rattle.lower.proofs.Jumping.{both-ways, second-refused, first-refused, jumped-refused, jumped-over, leads-deciding, told-deciding, no-wait, no-turn}
+use Rattle.lower.proofs.Steps.{exits}
+use Rattle.lower.proofs.Jumping.{told-deciding, no-wait}
 use Rattle.lower.proofs.emitter.Emitter.jump_from.Goals as goal
 
 pub returns-in_err-emit : goal.returns-in_err-emit
