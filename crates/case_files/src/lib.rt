@@ -4,8 +4,8 @@
 //! comes so many times, in which a `#` stands for the number of the turn, and a back.
 #![tactic(auto)]
 
-mod asked;
-mod source;
+mod argument;
+mod text;
 
-pub use asked::asked;
-pub use source::source;
+pub use argument::asked;
+pub use text::source;
