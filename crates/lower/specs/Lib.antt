@@ -1,0 +1,16 @@
+-- Which middle code a typed program is lowered to. Emitting says how code is made of parts and how registers are
+-- allotted; Expressions, Statements and Programs have a row for each construct.
+pub mod Emitting
+pub mod Expressions
+pub mod Statements
+pub mod Programs
+-- What the code does: the code so far, and how it grows.
+pub mod SoFar
+pub mod Emits
+pub mod Runs
+pub mod Jumps
+pub mod Drafts
+pub mod Bodies
+pub mod Nodes
+pub mod Functions
+pub mod Instructions
