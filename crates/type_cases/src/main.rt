@@ -1,32 +1,19 @@
 //! What the lexer, the parser and checking answer to each program of a file of cases.
 //!
 //! The only argument names the file. Each line of it that is not empty is a program: the source of its main file and,
-//! behind a `$`, that of its binary file. In a source a backquote stands for a line feed. A source with `@` is one too:
-//! how many times, a front, a part that comes so many times, in which a `#` stands for the number of the turn, and a
-//! back.
+//! behind a `$`, that of its binary file (case_files tells how a source is written).
 #![tactic(auto)]
-
-mod source;
 
 use anyhow::{Result, bail};
 use c_lexer::tokens;
 use c_parser::parse;
 use c_tree::Unit;
 use c_typing::check;
-use source::source;
+use case_files::{asked, source};
 use std::alloc::Global;
-use std::{env, fs};
 
 /// The longest source that is read, in bytes.
 const LONGEST: usize = 1_048_576;
-
-/// The bytes of the file that the program was asked for.
-fn asked(rt: &HostRuntime) -> Result<Vec<u8>> {
-    match env::args(rt)?.nth(1) {
-        Some(path) => Ok(fs::read(rt, path.as_str())?),
-        None => bail!("no file of cases is named"),
-    }
-}
 
 /// What comes of a source: its tree, or the refusal of the lexer or the parser.
 #[derive(Drop)]
