@@ -6,11 +6,5 @@ pub mod Statements
 pub mod Programs
 -- What the code does: the code so far, and how it grows.
 pub mod SoFar
-pub mod Emits
-pub mod Runs
-pub mod Jumps
-pub mod Drafts
-pub mod Bodies
-pub mod Nodes
-pub mod Functions
 pub mod Instructions
+pub mod Flowing

@@ -1,5 +1,0 @@
-use Rattle.lower.proofs.Emitted.{no-code}
-use Rattle.lower.proofs.emitter.Emitter.new_address.Goals as goal
-
-pub returns : goal.returns
-returns c = λ rows. no-code (c.register.ensures rows)

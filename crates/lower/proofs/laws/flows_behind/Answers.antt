@@ -1,0 +1,5 @@
+use Rattle.lower.proofs.FlowingParts.{flows-append}
+use Rattle.lower.proofs.laws.flows_behind.Goals as goal
+
+pub returns : goal.returns
+returns c = λ start o p q a b first second. flows-append (λ place opened. ⊥) start o p q a b (λ place opened h. absurd h) first second

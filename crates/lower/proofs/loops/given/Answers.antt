@@ -1,7 +1,0 @@
-use Rattle.std.proofs.Common.{rules}
-use Rattle.lower.proofs.StatementRows.{no_items-row}
-use Rattle.lower.proofs.Rounds.{rounds-ran}
-use Rattle.lower.proofs.loops.given.Goals as goal
-
-pub returns-in-None : goal.returns-in-None
-returns-in-None c = search rules
