@@ -312,3 +312,125 @@ flows-closed exits start end o q ls at h =
           same = past h.stacks (length ls) h.count ∙ sym e.1;
           back = λ le. absurd (omega (arith, le, below));
         })
+
+-- ---- rounds
+
+-- behind the last instruction, or back to the head
+abbrev pub Back : ℕ → ℕ → List ℕ → List ℕ → ℕ → Type 0
+Back start size o q place = (place ≡ start) ⊎ ((place ≡ start + size + 1) × (q ≡ o))
+
+module _ (exits : Exits) (start : ℕ) (o q : List ℕ) (c : List Line) (l turn : Line) (head : slice_get c 0 ≡ Some turn) (counts : way turn.instruction ≡ Counts)
+    (beyond : Beyond exits (start + length (c ++ l ∷ []))) (one : Flows exits start o o c)
+    (newest : EndsNewest (way l.instruction) o) (stays : way_opened (start + length c) (way l.instruction) o ≡ o)
+    (back : All (Back start (length c) o q) (way_goes (start + length c) (way l.instruction))) where
+  abbrev pub Inner : ℕ → List ℕ → ℕ → Type 0
+  Inner = Enters exits start c one.stacks o
+
+  abbrev pub Round : ℕ → List ℕ → ℕ → Type 0
+  Round = Enters exits start (c ++ l ∷ []) (one.stacks ++ o ∷ []) q
+
+  round-long : length (c ++ l ∷ []) ≡ length c + 1
+  round-long = length-append c (l ∷ [])
+
+  last-passes : (h jump place : ℕ) → jump < length c → Back start (length c) o q place → Passes (start + h) (start + jump) place
+  last-passes h jump place below (inl is) = λ past before. omega (arith, is, past)
+  last-passes h jump place below (inr is) = λ past before. omega (arith, is.0, below, before)
+
+  inner-loops : (h jump : ℕ) → jump < length c → Loops start c h jump → Loops start (c ++ l ∷ []) h jump
+  inner-loops h jump below x =
+      record { turn = x.turn; there = front-is c (l ∷ []) h x.turn x.there; counts = x.counts; apart = λ n y is side. by n y side (part-of c (l ∷ []) n y is) }
+    where
+      last : (n : ℕ) (y : Line) → n ≡ length c → l ≡ y → All (Passes (start + h) (start + jump)) (way_goes (start + n) (way y.instruction))
+      last n y at is =
+          subst (λ m. All (Passes (start + h) (start + jump)) (way_goes (start + m) (way y.instruction))) (sym at)
+          (subst (λ z. All (Passes (start + h) (start + jump)) (way_goes (start + length c) (way z.instruction))) is
+          (each-of {P = Back start (length c) o q} {Q = Passes (start + h) (start + jump)} _ (λ place. last-passes h jump place below) back))
+
+      by : (n : ℕ) (y : Line) → (n < h) ⊎ (jump < n) → Part c (l ∷ []) n y → All (Passes (start + h) (start + jump)) (way_goes (start + n) (way y.instruction))
+      by n y side (front is within) = x.apart n y is side
+      by n y side (rear m at is) = behind (only-of l m y is)
+        where
+          behind : Only l m y → All (Passes (start + h) (start + jump)) (way_goes (start + n) (way y.instruction))
+          behind (only none same) = last n y (omega (arith, at, none)) same
+
+  whole-loops : Loops start (c ++ l ∷ []) 0 (length c)
+  whole-loops =
+      record {
+        turn = turn;
+        there = front-is c (l ∷ []) 0 turn head;
+        counts = counts;
+        apart = λ n y is side. absurd (nowhere n (slice_get_within (c ++ l ∷ []) n y is) side);
+      }
+    where
+      nowhere : (n : ℕ) → n < length (c ++ l ∷ []) → (n < 0) ⊎ (length c < n) → ⊥
+      nowhere n below (inl less) = omega (arith, less)
+      nowhere n below (inr more) = omega (arith, more, below, round-long)
+
+  stack-within : (k : ℕ) → k ≤ length c → open_at (one.stacks ++ o ∷ []) q k ≡ open_at one.stacks o k
+  stack-within k below = open-front one.stacks (o ∷ []) o q k refl (omega (arith, below, one.count))
+
+  stack-last : open_at (one.stacks ++ o ∷ []) q (length c) ≡ o
+  stack-last = ap (open_at (one.stacks ++ o ∷ []) q) (omega (arith, one.count)) ∙ open-rear one.stacks (o ∷ []) q 0
+
+  stack-behind : open_at (one.stacks ++ o ∷ []) q (length c + 1) ≡ q
+  stack-behind = ap (open_at (one.stacks ++ o ∷ []) q) (omega (arith, one.count)) ∙ open-rear one.stacks (o ∷ []) q 1
+
+  inner-enters : (j : ℕ) (s : List ℕ) (place : ℕ) → j < length c → Inner j s place → Round j s place
+  inner-enters j s place below (inr e) = inr e
+  inner-enters j s place below (inl x) =
+      inl (record {
+        k = x.k;
+        is = x.is;
+        within = omega (arith, x.within, round-long);
+        same = stack-within x.k x.within ∙ x.same;
+        back = λ le. inner-loops x.k j below (x.back le);
+      })
+
+  last-enters : (place : ℕ) → Back start (length c) o q place → Round (length c) o place
+  last-enters place (inl is) =
+      inl (record { k = 0; is = is ∙ omega arith; within = omega arith; same = stack-within 0 (omega arith) ∙ one.first; back = λ le. whole-loops })
+  last-enters place (inr is) =
+      inl (record {
+        k = length c + 1;
+        is = is.0 ∙ omega arith;
+        within = omega (arith, round-long);
+        same = stack-behind ∙ is.1;
+        back = λ le. absurd (omega (arith, le));
+      })
+
+  round-ends : (j : ℕ) (y : Line) → Part c (l ∷ []) j y → EndsNewest (way y.instruction) (open_at (one.stacks ++ o ∷ []) q j)
+  round-ends j y (front is below) = subst (EndsNewest (way y.instruction)) (sym (stack-within j (omega (arith, below)))) (one.ends j y is)
+  round-ends j y (rear m at is) = by (only-of l m y is)
+    where
+      by : Only l m y → EndsNewest (way y.instruction) (open_at (one.stacks ++ o ∷ []) q j)
+      by (only none same) =
+          subst (EndsNewest (way y.instruction)) (sym (ap (open_at (one.stacks ++ o ∷ []) q) (omega (arith, at, none)) ∙ stack-last))
+          (subst (λ z. EndsNewest (way z.instruction) o) same newest)
+
+  abbrev pub RoundGoes : ℕ → ℕ → Way → List ℕ → Type 0
+  RoundGoes j at w s = All (Round j (way_opened at w s)) (way_goes at w)
+
+  round-goes : (j : ℕ) (y : Line) → Part c (l ∷ []) j y → RoundGoes j (start + j) (way y.instruction) (open_at (one.stacks ++ o ∷ []) q j)
+  round-goes j y (front is below) =
+      subst (RoundGoes j (start + j) (way y.instruction)) (sym (stack-within j (omega (arith, below))))
+      (each-of {P = Inner j (way_opened (start + j) (way y.instruction) (open_at one.stacks o j))} {Q = Round j (way_opened (start + j) (way y.instruction) (open_at one.stacks o j))} _
+      (λ place. inner-enters j (way_opened (start + j) (way y.instruction) (open_at one.stacks o j)) place below) (one.goes j y is))
+  round-goes j y (rear m at is) = by (only-of l m y is)
+    where
+      by : Only l m y → RoundGoes j (start + j) (way y.instruction) (open_at (one.stacks ++ o ∷ []) q j)
+      by (only none same) =
+          subst (λ n. RoundGoes n (start + n) (way y.instruction) (open_at (one.stacks ++ o ∷ []) q n)) (omega (arith, at, none))
+          (subst (RoundGoes (length c) (start + length c) (way y.instruction)) (sym stack-last)
+          (subst (λ z. RoundGoes (length c) (start + length c) (way z.instruction) o) same
+          (each-of {P = Back start (length c) o q} {Q = Round (length c) (way_opened (start + length c) (way l.instruction) o)} _
+          (λ place x. subst (λ s. Round (length c) s place) (sym stays) (last-enters place x)) back)))
+
+  pub flows-round : Flows exits start o q (c ++ l ∷ [])
+  flows-round =
+      record {
+        stacks = one.stacks ++ o ∷ [];
+        count = length-append one.stacks (o ∷ []) ∙ ap (λ n. n + 1) one.count ∙ sym round-long;
+        first = stack-within 0 (omega arith) ∙ one.first;
+        ends = λ j y is. round-ends j y (part-of c (l ∷ []) j y is);
+        goes = λ j y is. round-goes j y (part-of c (l ∷ []) j y is);
+      }
