@@ -1,1 +1,2 @@
 mod FlowingParts
+mod FlowingCode

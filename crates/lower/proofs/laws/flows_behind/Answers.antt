@@ -1,4 +1,5 @@
 use Rattle.lower.proofs.FlowingParts.{flows-append}
+use Rattle.lower.proofs.FlowingCode.{flows-closes}
 use Rattle.lower.proofs.laws.flows_behind.Goals as goal
 
 pub returns : goal.returns
