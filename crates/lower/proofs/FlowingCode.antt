@@ -7,11 +7,12 @@ use Rattle.mid_code.specs.declared.mid.Mid.TheVariants as mid
 use Rattle.mid_code.specs.declared.way.Way.{Way}
 use Rattle.mid_code.specs.declared.way.Way.TheVariants.{Next, Counts, Begins, Ends, Jumps, Branches, Returns, Stops}
 use Rattle.mid_code.specs.Ways.{way_of}
-use Rattle.mid_code.specs.Flow.{without}
+use Rattle.mid_code.specs.Flow.{without, way_opened, way_goes}
+use Rattle.mid_code.specs.WellFormed.{EndsNewest}
 use Rattle.lower.specs.Emitting.{Line, Code, Around, at_line, jumped, parted}
 use Rattle.lower.specs.Statements.{closes}
 use Rattle.lower.specs.Flowing.{way, Beyond, Flows}
-use Rattle.lower.proofs.FlowingParts.{Exits, with_exit, flows-append, flows-none, flows-ends, flows-branches, flows-jumps, flows-wider, flows-closed}
+use Rattle.lower.proofs.FlowingParts.{Exits, with_exit, Back, all-one, all-two, flows-append, flows-none, flows-ends, flows-counts, flows-branches, flows-jumps, flows-wider, flows-closed, flows-round}
 
 same-itself : (n : ℕ) → (n == n) ≡ true
 same-itself n = search rules
@@ -74,3 +75,35 @@ flows-parted exits start other end o l m c d at-other at-end is-l is-m beyond fi
 
     front : Flows wide start o o (l ∷ c ++ m ∷ [])
     front = flows-over wide start other o l (c ++ m ∷ []) at-other is-l later inner
+
+-- ---- loops
+
+-- what lies between the head and the jump back to it
+module _ (exits : Exits) (start end : ℕ) (o : List ℕ) (turn : Line) (counts : way turn.instruction ≡ Counts) where
+  abbrev pub Out : Exits
+  Out = with_exit exits end o
+
+  pub flows-headed : (c : List Line) → Beyond Out (start + length (turn ∷ c)) → Flows Out (start + 1) o o c → Flows Out start o o (turn ∷ c)
+  flows-headed c beyond h = flows-append Out start o o o (turn ∷ []) c beyond (flows-counts Out start o o turn counts refl) h
+
+  -- `Jump L`, behind which nothing is reached but by a way out
+  pub flows-jumped-back : (c : List Line) (jump : Line) → way jump.instruction ≡ Jumps start → end ≡ start + length ((turn ∷ c) ++ jump ∷ []) → Beyond exits end
+      → Flows Out start o o (turn ∷ c) → Flows exits start o o ((turn ∷ c) ++ jump ∷ [])
+  flows-jumped-back c jump is at beyond h =
+      flows-closed exits start end o o ((turn ∷ c) ++ jump ∷ []) at
+      (flows-round Out start o o (turn ∷ c) jump turn refl counts
+      (λ place s e. subst (λ n. n ≤ place) at (with-beyond exits end end o (omega arith) beyond refl place s e)) h
+      (subst (λ w. EndsNewest w o) (sym is) tt) (ap (λ w. way_opened (start + length (turn ∷ c)) w o) is)
+      (subst (λ w. All (Back start (length (turn ∷ c)) o o) (way_goes (start + length (turn ∷ c)) w)) (sym is)
+      (all-one (Back start (length (turn ∷ c)) o o) start (inl refl))))
+
+  -- `JumpN L`
+  pub flows-branched-back : (c : List Line) (jump : Line) → way jump.instruction ≡ Branches start → end ≡ start + length ((turn ∷ c) ++ jump ∷ []) → Beyond exits end
+      → Flows Out start o o (turn ∷ c) → Flows exits start o o ((turn ∷ c) ++ jump ∷ [])
+  flows-branched-back c jump is at beyond h =
+      flows-closed exits start end o o ((turn ∷ c) ++ jump ∷ []) at
+      (flows-round Out start o o (turn ∷ c) jump turn refl counts
+      (λ place s e. subst (λ n. n ≤ place) at (with-beyond exits end end o (omega arith) beyond refl place s e)) h
+      (subst (λ w. EndsNewest w o) (sym is) tt) (ap (λ w. way_opened (start + length (turn ∷ c)) w o) is)
+      (subst (λ w. All (Back start (length (turn ∷ c)) o o) (way_goes (start + length (turn ∷ c)) w)) (sym is)
+      (all-two (Back start (length (turn ∷ c)) o o) (start + length (turn ∷ c) + 1) start (inr (refl, refl)) (inl refl))))

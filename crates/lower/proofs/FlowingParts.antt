@@ -170,16 +170,16 @@ module _ (exits : Exits) (start : ℕ) (o p q : List ℕ) (c d : List Line) (bey
 
 -- ---- one instruction
 
-all-one : {A : Type 0} (P : A → Type 0) (x : A) → P x → All P (x ∷ [])
+pub all-one : {A : Type 0} (P : A → Type 0) (x : A) → P x → All P (x ∷ [])
 all-one P x h zero d below = h
 all-one P x h (suc k) d below = absurd (omega (arith, below))
 
-all-two : {A : Type 0} (P : A → Type 0) (x y : A) → P x → P y → All P (x ∷ y ∷ [])
+pub all-two : {A : Type 0} (P : A → Type 0) (x y : A) → P x → P y → All P (x ∷ y ∷ [])
 all-two P x y h i zero d below = h
 all-two P x y h i (suc zero) d below = i
 all-two P x y h i (suc (suc k)) d below = absurd (omega (arith, below))
 
-all-none : {A : Type 0} (P : A → Type 0) → All P []
+pub all-none : {A : Type 0} (P : A → Type 0) → All P []
 all-none P k d below = absurd (omega (arith, below))
 
 pub flows-none : (exits : Exits) (start : ℕ) (o : List ℕ) → Flows exits start o o []
