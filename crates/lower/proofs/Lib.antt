@@ -1,2 +1,3 @@
 mod FlowingParts
+mod FlowingFound
 mod FlowingCode

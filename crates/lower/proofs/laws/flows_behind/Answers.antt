@@ -1,5 +1,6 @@
 use Rattle.lower.proofs.FlowingParts.{flows-append}
 use Rattle.lower.proofs.FlowingCode.{flows-closes}
+use Rattle.lower.proofs.FlowingFound.{nests-there}
 use Rattle.lower.proofs.laws.flows_behind.Goals as goal
 
 pub returns : goal.returns
