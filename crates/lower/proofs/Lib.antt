@@ -1,3 +1,4 @@
 mod FlowingParts
+mod KeptTogether
 mod FlowingFound
 mod FlowingCode

@@ -8,3 +8,4 @@ pub mod Programs
 pub mod SoFar
 pub mod Instructions
 pub mod Flowing
+pub mod Keeping
