@@ -14,13 +14,13 @@ use Rattle.lower.specs.Flowing.{Flows}
 use Rattle.lower.specs.Keeping.{Kinded, IsWanted, KeptField, KeptFields, Kept, KeptLine, MoreKinds, HasTemporaries, Good, GoodFrom}
 use Rattle.lower.proofs.FlowingParts.{front-is, flows-append}
 
-same-made : {A : Type 0} (x y : Made A) (r : Result (Made A) ℕ) → r ≡ Ok x → r ≡ Ok y → x ≡ y
+pub same-made : {A : Type 0} (x y : Made A) (r : Result (Made A) ℕ) → r ≡ Ok x → r ≡ Ok y → x ≡ y
 same-made x y r e f = cc
 
-none-made : {A : Type 0} (line : ℕ) (x : Made A) (r : Result (Made A) ℕ) → r ≡ Err line → r ≡ Ok x → ⊥
+pub none-made : {A : Type 0} (line : ℕ) (x : Made A) (r : Result (Made A) ℕ) → r ≡ Err line → r ≡ Ok x → ⊥
 none-made line x r e f = cc
 
-all-more : {A : Type 0} {P Q : A → Type 0} (xs : List A) → ((x : A) → P x → Q x) → All P xs → All Q xs
+pub all-more : {A : Type 0} {P Q : A → Type 0} (xs : List A) → ((x : A) → P x → Q x) → All P xs → All Q xs
 all-more xs f all = λ k d below. f _ (all k d below)
 
 module _ (objects functions : ℕ → Type 0) (old new : List RegisterKind) (few many : ℕ) (more : MoreKinds objects functions old new) (le : few ≤ many) where

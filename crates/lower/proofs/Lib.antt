@@ -1,4 +1,5 @@
 mod FlowingParts
+mod KeptSteps
 mod KeptTogether
 mod FlowingFound
 mod FlowingCode
