@@ -91,7 +91,7 @@ module _ (objects functions : ℕ → Type 0) {A B : Type 0} (W : List RegisterK
         gives = h.gives;
       }
 
-  behind-good : (one : Made A) (r : Result (Made B) ℕ) (made : Made B) → Good objects functions W old one
+  pub behind-good : (one : Made A) (r : Result (Made B) ℕ) (made : Made B) → Good objects functions W old one
       → ((two : Made B) → r ≡ Ok two → Good objects functions V one.after two) → behind one.code r ≡ Ok made → Good objects functions V old made
   behind-good one (Err line) made g next e = absurd (none-made line made (behind one.code (Err line)) refl e)
   behind-good one (Ok two) made g next e = subst (Good objects functions V old) (same-made _ made (behind one.code (Ok two)) refl e) (composed one two g (next two refl))
