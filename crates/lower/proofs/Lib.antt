@@ -1,4 +1,5 @@
 mod FlowingParts
+mod KeptRows
 mod KeptSteps
 mod KeptTogether
 mod FlowingFound
