@@ -90,3 +90,68 @@ module _ (objects functions : ℕ → Type 0) where
       (emits-good objects functions d.after at (mid.PtrAdd d.given p n (ty_of u) is_less (scale_of t)) refl
       (g.gives, (still objects functions old.kinds d.after.kinds g.kinds p Address h, (still objects functions old.kinds d.after.kinds g.kinds n Number i,
       (tt, (tt, (scale, tt))))))) g.gives)
+
+  -- what was there before two steps
+  twice : (a b c : List RegisterKind) → MoreKinds objects functions a b → MoreKinds objects functions b c → (r : ℕ) (kind : RegisterKind) → Kinded a r kind → Kinded c r kind
+  twice a b c first second r kind h = still objects functions b c second r kind (still objects functions a b first r kind h)
+
+  pub compared_with_zero-good : (old : Allotted) (ty : Ty) (line k r : ℕ) → has_arithmetic ty ≡ true → Has old r Number
+      → From (Of Number) old (compared_with_zero ty line k r)
+  compared_with_zero-good old ty line k r arithmetic h =
+      together objects functions (Of Number) (Of Number) old (temporary (suc k) line) _ (temporary-good objects functions old (suc k) line)
+      (λ z g. together objects functions Done (Of Number) z.after (emits line (mid.Const z.given 0)) _
+      (emits-good objects functions z.after line (mid.Const z.given 0) refl ((Number, g.gives), ((omega arith, (Number, g.gives, λ e. refl)), tt)))
+      (λ one i. computed-good one.after Eq ty line r z.given arithmetic (twice old.kinds z.after.kinds one.after.kinds g.kinds i.kinds r Number h)
+      (still objects functions z.after.kinds one.after.kinds i.kinds z.given Number g.gives)))
+
+  pub complement-good : (old : Allotted) (ty : Ty) (line k r : ℕ) → has_arithmetic ty ≡ true → Has old r Number → From (Of Number) old (complement_of ty line k r)
+  complement-good old ty line k r arithmetic h =
+      together objects functions (Of Number) (Of Number) old (temporary (suc k) line) _ (temporary-good objects functions old (suc k) line)
+      (λ z g. together objects functions Done (Of Number) z.after (emits line (mid.Const z.given 4294967295)) _
+      (emits-good objects functions z.after line (mid.Const z.given 4294967295) refl
+      ((Number, g.gives), ((omega arith, (Number, g.gives, λ e. absurd (number-not e))), tt)))
+      (λ one i. computed-good one.after Xor ty line r z.given arithmetic (twice old.kinds z.after.kinds one.after.kinds g.kinds i.kinds r Number h)
+      (still objects functions z.after.kinds one.after.kinds i.kinds z.given Number g.gives)))
+
+  pub compared_with_null-good : (old : Allotted) (op : Op) (line k r : ℕ) → is_comparison op ≡ true → Has old r Address
+      → From (Of Number) old (compared_with_null op line k r)
+  compared_with_null-good old op line k r comparison h =
+      together objects functions (Of Address) (Of Number) old (new Address line) _ (new-good objects functions old Address line)
+      (λ n g. together objects functions Done (Of Number) n.after (emits line (mid.Const n.given 0)) _
+      (emits-good objects functions n.after line (mid.Const n.given 0) refl ((Address, g.gives), ((omega arith, (Address, g.gives, λ e. refl)), tt)))
+      (λ one i. together objects functions (Of Number) (Of Number) one.after (temporary k line) _ (temporary-good objects functions one.after k line)
+      (λ d j. emits-given d.after line d.given Number (mid.PtrCmp op d.given r n.given)
+      (emits-good objects functions d.after line (mid.PtrCmp op d.given r n.given) refl
+      (comparison, (j.gives, (still objects functions one.after.kinds d.after.kinds j.kinds r Address
+      (twice old.kinds n.after.kinds one.after.kinds g.kinds i.kinds r Address h),
+      (twice n.after.kinds one.after.kinds d.after.kinds i.kinds j.kinds n.given Address g.gives, tt))))) j.gives)))
+
+  pub pointers_subtracted-good : (old : Allotted) (t : CType) (line at k x y : ℕ) → 1 ≤ scale_of t → Has old x Address → Has old y Address
+      → From (Of Number) old (pointers_subtracted t line at k x y)
+  pointers_subtracted-good old t line at k x y scale h i =
+      together objects functions (Of Number) (Of Number) old (temporary k line) _ (temporary-good objects functions old k line)
+      (λ d g. emits-given d.after at d.given Number (mid.PtrDiff d.given x y (scale_of t))
+      (emits-good objects functions d.after at (mid.PtrDiff d.given x y (scale_of t)) refl
+      (g.gives, (still objects functions old.kinds d.after.kinds g.kinds x Address h, (still objects functions old.kinds d.after.kinds g.kinds y Address i,
+      (scale, tt))))) g.gives)
+
+  pub pointers_compared-good : (old : Allotted) (op : Op) (line at k x y : ℕ) → is_comparison op ≡ true → Has old x Address → Has old y Address
+      → From (Of Number) old (pointers_compared op line at k x y)
+  pointers_compared-good old op line at k x y comparison h i =
+      together objects functions (Of Number) (Of Number) old (temporary k line) _ (temporary-good objects functions old k line)
+      (λ d g. emits-given d.after at d.given Number (mid.PtrCmp op d.given x y)
+      (emits-good objects functions d.after at (mid.PtrCmp op d.given x y) refl
+      (comparison, (g.gives, (still objects functions old.kinds d.after.kinds g.kinds x Address h,
+      (still objects functions old.kinds d.after.kinds g.kinds y Address i, tt))))) g.gives)
+
+  pub function_in-good : (old : Allotted) (number line k : ℕ) → functions number → From (Of Number) old (function_in number line k)
+  function_in-good old number line k callable =
+      together objects functions (Of Number) (Of Number) old (temporary k line) _ (temporary-good objects functions old k line)
+      (λ d g. emits-given d.after line d.given Number (mid.FunAddr d.given number)
+      (emits-good objects functions d.after line (mid.FunAddr d.given number) refl (g.gives, (callable, tt))) g.gives)
+
+  pub object_in-good : (old : Allotted) (number line : ℕ) → objects number → From (Of Address) old (object_in number line)
+  object_in-good old number line there =
+      together objects functions (Of Address) (Of Address) old (new Address line) _ (new-good objects functions old Address line)
+      (λ d g. emits-given d.after line d.given Address (mid.GlobAddr d.given number)
+      (emits-good objects functions d.after line (mid.GlobAddr d.given number) refl (g.gives, (there, tt))) g.gives)
