@@ -1,4 +1,5 @@
 mod FlowingParts
+mod KeptJumps
 mod KeptRows
 mod KeptSteps
 mod KeptTogether
