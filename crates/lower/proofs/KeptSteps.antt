@@ -18,7 +18,7 @@ use Rattle.lower.proofs.FlowingParts.{all-one, all-none, front-is, rear-is, flow
 use Rattle.lower.proofs.KeptTogether.{same-made, none-made, all-more, behind-good, together}
 
 module _ (objects functions : ℕ → Type 0) where
-  no-more : (kinds : List RegisterKind) → MoreKinds objects functions kinds kinds
+  pub no-more : (kinds : List RegisterKind) → MoreKinds objects functions kinds kinds
   no-more kinds = record { more = []; is = sym (append-nil kinds) }
 
   -- no code

@@ -1,4 +1,5 @@
 mod FlowingParts
+mod KeptWays
 mod KeptJumps
 mod KeptRows
 mod KeptSteps
