@@ -12,7 +12,7 @@ use Rattle.lower.specs.Keeping.{Kinded, KeptFields, KeptLine, MoreKinds, Good, G
 use Rattle.lower.proofs.FlowingParts.{all-one, all-none, flows-none}
 use Rattle.lower.proofs.FlowingCode.{flows-parted}
 use Rattle.lower.proofs.KeptTogether.{same-made, none-made, all-more, still-kept, together}
-use Rattle.lower.proofs.KeptSteps.{Nothing, given-good, no-more, still}
+use Rattle.lower.proofs.KeptSteps.{Nothing, IsOf, given-good, no-more, still}
 use Rattle.lower.proofs.KeptJumps.{IsJump}
 
 module _ (objects functions : ℕ → Type 0) where
@@ -109,3 +109,38 @@ module _ (objects functions : ℕ → Type 0) where
       where
         next : (start : ℕ) → suc start ≡ start + 1
         next start = omega arith
+
+  -- ---- the whole
+
+  pub emits_code-good : (old : Allotted) (c : Code) → CodeKeeps old.kinds (length old.types) c → GoodFrom objects functions (Nothing objects functions) old (emits_code c)
+  emits_code-good old c h temporaries m is =
+      subst (Good objects functions (Nothing objects functions) old) (same-made _ m (emits_code c old) refl is)
+      (record {
+        kinds = no-more objects functions old.kinds;
+        types = omega arith;
+        homes = refl;
+        temporaries = temporaries;
+        size = h.size;
+        sized = h.sized;
+        kept = h.kept;
+        flows = h.flows;
+        gives = tt;
+      })
+
+  pub two_ways-good : {B : Type 0} (V : List RegisterKind → ℕ → B → Type 0) (old : Allotted) (line x : ℕ) (kind k : RegisterKind) (jump : ℕ → Mid)
+      → IsJump objects functions x kind jump → Kinded old.kinds x kind → (m : Making ℕ) (n : ℕ → Making B)
+      → GoodFrom objects functions (IsOf objects functions k) old m
+      → ((a : Allotted) (d : ℕ) → MoreKinds objects functions old.kinds a.kinds → a.homes ≡ old.homes → Kinded a.kinds d k → GoodFrom objects functions V a (n d))
+      → GoodFrom objects functions (IsOf objects functions k) old (two_ways line jump m n)
+  two_ways-good V old line x kind k jump is there m n first next =
+      together objects functions (Apart (IsOf objects functions k)) (IsOf objects functions k) old (apart m) _ (apart-good (IsOf objects functions k) old m first)
+      (λ one g. together objects functions (Apart V) (IsOf objects functions k) one.after (apart (n one.given.0)) _
+      (apart-good V one.after (n one.given.0) (next one.after one.given.0 g.kinds g.homes g.gives.0))
+      (λ two h. together objects functions (Nothing objects functions) (IsOf objects functions k) two.after (emits_code (parted line jump one.given.1 two.given.1)) _
+      (emits_code-good two.after (parted line jump one.given.1 two.given.1)
+      (parted-keeps two.after line x kind jump is
+      (still objects functions one.after.kinds two.after.kinds h.kinds x kind (still objects functions old.kinds one.after.kinds g.kinds x kind there))
+      one.given.1 two.given.1 (code-still one.after.kinds two.after.kinds (length one.after.types) (length two.after.types) one.given.1 h.kinds h.types g.gives.1) h.gives.1))
+      (λ three i. given-good objects functions (IsOf objects functions k) three.after one.given.0
+      (still objects functions two.after.kinds three.after.kinds i.kinds one.given.0 k
+      (still objects functions one.after.kinds two.after.kinds h.kinds one.given.0 k g.gives.0)))))
