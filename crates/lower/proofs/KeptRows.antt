@@ -32,7 +32,7 @@ module _ (objects functions : ℕ → Type 0) where
   Of = IsOf objects functions
 
   -- an instruction, and a register that is there
-  emits-given : (old : Allotted) (line r : ℕ) (kind : RegisterKind) (m : Mid) → From Done old (emits line m) → Has old r kind → From (Of kind) old (emits line m >> pure r)
+  pub emits-given : (old : Allotted) (line r : ℕ) (kind : RegisterKind) (m : Mid) → From Done old (emits line m) → Has old r kind → From (Of kind) old (emits line m >> pure r)
   emits-given old line r kind m step h =
       together objects functions Done (Of kind) old (emits line m) (λ done. pure r) step
       (λ one g. given-good objects functions (Of kind) one.after r (still objects functions old.kinds one.after.kinds g.kinds r kind h))

@@ -127,20 +127,34 @@ module _ (objects functions : ℕ → Type 0) where
         gives = tt;
       })
 
-  pub two_ways-good : {B : Type 0} (V : List RegisterKind → ℕ → B → Type 0) (old : Allotted) (line x : ℕ) (kind k : RegisterKind) (jump : ℕ → Mid)
-      → IsJump objects functions x kind jump → Kinded old.kinds x kind → (m : Making ℕ) (n : ℕ → Making B)
-      → GoodFrom objects functions (IsOf objects functions k) old m
-      → ((a : Allotted) (d : ℕ) → MoreKinds objects functions old.kinds a.kinds → a.homes ≡ old.homes → Kinded a.kinds d k → GoodFrom objects functions V a (n d))
-      → GoodFrom objects functions (IsOf objects functions k) old (two_ways line jump m n)
-  two_ways-good V old line x kind k jump is there m n first next =
-      together objects functions (Apart (IsOf objects functions k)) (IsOf objects functions k) old (apart m) _ (apart-good (IsOf objects functions k) old m first)
-      (λ one g. together objects functions (Apart V) (IsOf objects functions k) one.after (apart (n one.given.0)) _
+  -- what is said of a register stays so where there are more
+  abbrev pub Lasts : (List RegisterKind → ℕ → ℕ → Type 0) → Type 0
+  Lasts W = (old new : List RegisterKind) (few many r : ℕ) → MoreKinds objects functions old new → W old few r → W new many r
+
+  pub of-lasts : (kind : RegisterKind) → Lasts (IsOf objects functions kind)
+  of-lasts kind old new few many r more h = still objects functions old new more r kind h
+
+  -- a register of whatever kind
+  abbrev pub IsSome : List RegisterKind → ℕ → ℕ → Type 0
+  IsSome kinds types r = (kind : RegisterKind) × Kinded kinds r kind
+
+  pub some-lasts : Lasts IsSome
+  some-lasts old new few many r more h = (h.0, still objects functions old new more r h.0 h.1)
+
+  pub two_ways-good : {B : Type 0} (W : List RegisterKind → ℕ → ℕ → Type 0) (V : List RegisterKind → ℕ → B → Type 0) → Lasts W
+      → (old : Allotted) (line x : ℕ) (kind : RegisterKind) (jump : ℕ → Mid) → IsJump objects functions x kind jump → Kinded old.kinds x kind
+      → (m : Making ℕ) (n : ℕ → Making B) → GoodFrom objects functions W old m
+      → ((a : Allotted) (d : ℕ) → MoreKinds objects functions old.kinds a.kinds → a.homes ≡ old.homes → W a.kinds (length a.types) d → GoodFrom objects functions V a (n d))
+      → GoodFrom objects functions W old (two_ways line jump m n)
+  two_ways-good W V lasts old line x kind jump is there m n first next =
+      together objects functions (Apart W) W old (apart m) _ (apart-good W old m first)
+      (λ one g. together objects functions (Apart V) W one.after (apart (n one.given.0)) _
       (apart-good V one.after (n one.given.0) (next one.after one.given.0 g.kinds g.homes g.gives.0))
-      (λ two h. together objects functions (Nothing objects functions) (IsOf objects functions k) two.after (emits_code (parted line jump one.given.1 two.given.1)) _
+      (λ two h. together objects functions (Nothing objects functions) W two.after (emits_code (parted line jump one.given.1 two.given.1)) _
       (emits_code-good two.after (parted line jump one.given.1 two.given.1)
       (parted-keeps two.after line x kind jump is
       (still objects functions one.after.kinds two.after.kinds h.kinds x kind (still objects functions old.kinds one.after.kinds g.kinds x kind there))
       one.given.1 two.given.1 (code-still one.after.kinds two.after.kinds (length one.after.types) (length two.after.types) one.given.1 h.kinds h.types g.gives.1) h.gives.1))
-      (λ three i. given-good objects functions (IsOf objects functions k) three.after one.given.0
-      (still objects functions two.after.kinds three.after.kinds i.kinds one.given.0 k
-      (still objects functions one.after.kinds two.after.kinds h.kinds one.given.0 k g.gives.0)))))
+      (λ three i. given-good objects functions W three.after one.given.0
+      (lasts two.after.kinds three.after.kinds (length two.after.types) (length three.after.types) one.given.0 i.kinds
+      (lasts one.after.kinds two.after.kinds (length one.after.types) (length two.after.types) one.given.0 h.kinds g.gives.0)))))

@@ -1,4 +1,5 @@
 mod FlowingParts
+mod KeptChoice
 mod KeptWays
 mod KeptJumps
 mod KeptRows

@@ -6,6 +6,7 @@ use Rattle.lower.proofs.KeptSteps.{new-good}
 use Rattle.lower.proofs.KeptRows.{constant_in-good}
 use Rattle.lower.proofs.KeptJumps.{where-zero}
 use Rattle.lower.proofs.KeptWays.{apart-good}
+use Rattle.lower.proofs.KeptChoice.{moved_to-good}
 use Rattle.lower.proofs.laws.flows_behind.Goals as goal
 
 pub returns : goal.returns
